@@ -1,0 +1,3 @@
+pub mod Map
+pub mod WellLinked
+pub mod Answers

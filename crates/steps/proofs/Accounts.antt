@@ -1,0 +1,166 @@
+-- Over every list of calls the accepted rounds are those held, handed out and dropped; and when an append is refused.
+use mathlib.Core.Path.{_≡_, refl, ap, sym, _∙_}
+use mathlib.Core.Logic.{_↔_}
+use mathlib.Core.Bool.{Bool, true, false, cond, not, _&&_, _||_, false≢true, true≢false}
+use mathlib.Core.List.{List, [], _∷_, _++_, map, head?, tail, dropLast}
+use mathlib.Core.Option.{Option, none, some}
+use Prim.Native.Nat.{ℕ, zero, suc, _+_, _-_, _≤_, _<_}
+use native.Mathlib.Omega.{arith}
+use lib.Dec.{eqb, leb}
+use lib.ListN.{length, getD, length-append, length-map}
+use borrow.Author.Tests.{leb-false, leb-true, le-leb, lt-leb, eqb-true, not-false}
+use Rattle.steps.specs.Lists.{filter, any, all, last?}
+use Rattle.steps.specs.State as St
+use Rattle.steps.specs.State.{State, Pair, empty, of, has, others, kept, rounds, leave, absent, full, crowded, add, replace, remove-member, remove-pair, keep, maxRounds, maxMembers}
+use Rattle.steps.specs.Call as C
+use Rattle.steps.specs.Call.{Call, Answer, Outcome, refused, append, insert, insert-all, remove, remove-all, entry, occupied-append, occupied-insert, occupied-remove-entry, vacant-insert, pop-front, pop-back, retain, pack-to, clear, get, get-all, entry-len, contains-key, keys, keys-len, values-len, iter, taken}
+use Rattle.steps.specs.Step.{Check, checks, refusal, first, entryOf, pop, act, settle, step, outcomes, after}
+use Rattle.steps.specs.Accounting.{times, isRefused, roundsIn, Flow, moved, moves, sum, flowOf}
+use Rattle.steps.specs.Proper.{Proper}
+use Rattle.steps.proofs.Filter.{length-split}
+use Rattle.steps.proofs.Holds.{Pass, passed, End, nothing, pair, front, back, proper-empty, step-proper, after-proper}
+
+-- n rounds held before, those of the flow accepted, handed out and dropped, and m held after
+abbrev pub Balanced : ℕ → Flow → ℕ → Type 0
+Balanced n f m = n + f .accepted ≡ m + f .handed + f .dropped
+
+-- a call that is not refused does not answer that it is
+accepting-first : (l : List ℕ) → isRefused (first l) ≡ false
+accepting-first [] = refl
+accepting-first (v ∷ vs) = refl
+
+accepting-pop : (o : Option Pair) (rest : List Pair) (s : State) → isRefused (pop o rest s .0 .answer) ≡ false
+accepting-pop none rest s = refl
+accepting-pop (some p) rest s = refl
+
+accepting-entry : (b : Bool) (k : ℕ) (s : State) → isRefused (entryOf b k s) ≡ false
+accepting-entry true k s = refl
+accepting-entry false k s = refl
+
+pub accepting : (c : Call) (s : State) → isRefused (act c s .0 .answer) ≡ false
+unfolding act
+accepting (append k v) s = refl
+accepting (insert k v) s = accepting-first (rounds k (s .pairs))
+accepting (insert-all k v out) s = refl
+accepting (remove k) s = accepting-first (rounds k (s .pairs))
+accepting (remove-all k out) s = refl
+accepting (entry k) s = accepting-entry (St.present k s) k s
+accepting (occupied-append k v) s = refl
+accepting (occupied-insert k v) s = accepting-first (rounds k (s .pairs))
+accepting (occupied-remove-entry k) s = accepting-first (rounds k (s .pairs))
+accepting (vacant-insert k v) s = refl
+accepting pop-front s = accepting-pop (head? (s .pairs)) (tail (s .pairs)) s
+accepting pop-back s = accepting-pop (last? (s .pairs)) (dropLast (s .pairs)) s
+accepting (retain ms) s = refl
+accepting (pack-to m n) s = refl
+accepting clear s = refl
+accepting (get k) s = accepting-first (rounds k (s .pairs))
+accepting (get-all k out) s = refl
+accepting (entry-len k) s = refl
+accepting (contains-key k) s = refl
+accepting (keys out) s = refl
+accepting keys-len s = refl
+accepting values-len s = refl
+accepting (iter ks vs) s = refl
+accepting taken s = refl
+
+added : (ps : List Pair) (p : Pair) → length (ps ++ (p ∷ [])) ≡ length ps + 1
+added ps p = length-append ps (p ∷ [])
+
+-- the record of k and the pairs of the others are all of P
+parted : (k : ℕ) (ps : List Pair) → length ps ≡ length (rounds k ps) + length (others k ps)
+parted k ps = omega (arith, length-split (of k) ps, length-map (filter (of k) ps) (λ p. p .value))
+
+first-rest : (l : List ℕ) → roundsIn (first l) + (length l - 1) ≡ length l
+first-rest [] = refl
+first-rest (v ∷ vs) = omega arith
+
+popped-one : (s : State) (o : Option Pair) (rest : List Pair) → End (s .pairs) o rest → length (s .pairs) + 0 ≡ length (pop o rest s .1 .pairs) + roundsIn (pop o rest s .0 .answer) + 0
+popped-one s o rest nothing = omega arith
+popped-one s o rest (pair h) = omega (arith, h .lengths)
+
+-- marks of 0 and 1, as many as there are pairs: those kept and the marks 0 are all
+marked : (ms : List ℕ) (ps : List Pair) → length ms ≡ length ps → all (λ m. eqb 0 m || eqb 1 m) ms ≡ true → length ps ≡ length (kept ms ps) + times (eqb 0) ms
+marked [] [] e h = refl
+marked [] (p ∷ ps) e h = omega arith
+marked (m ∷ ms) [] e h = omega arith
+marked (m ∷ ms) (p ∷ ps) e h = go (eqb 0 m) refl (eqb 1 m) refl h (λ a. marked ms ps (omega arith) a)
+  where
+    Z : ℕ
+    Z = times (eqb 0) ms
+
+    go : (b : Bool) → eqb 0 m ≡ b → (c : Bool) → eqb 1 m ≡ c → ((b || c) && all (λ m. eqb 0 m || eqb 1 m) ms) ≡ true
+        → (all (λ m. eqb 0 m || eqb 1 m) ms ≡ true → length ps ≡ length (kept ms ps) + times (eqb 0) ms)
+        → suc (length ps) ≡ length (cond c (p ∷ kept ms ps) (kept ms ps)) + length (cond b (m ∷ filter (eqb 0) ms) (filter (eqb 0) ms))
+    go true x true y h ih = omega (arith, eqb-true)
+    go true x false y h ih = omega (arith, ih h)
+    go false x true y h ih = omega (arith, ih h)
+    go false x false y h ih = absurd (false≢true h)
+
+pub act-balanced : (c : Call) (s : State) → Pass (checks c s) → Balanced (length (s .pairs)) (moved c s (act c s .0 .answer)) (length (act c s .1 .pairs))
+unfolding checks act moved
+act-balanced (append k v) s h = omega (arith, added (s .pairs) (record { key = k; value = v }))
+act-balanced (insert k v) s h = omega (arith, added (others k (s .pairs)) (record { key = k; value = v }), parted k (s .pairs), first-rest (rounds k (s .pairs)))
+act-balanced (insert-all k v out) s h = omega (arith, added (others k (s .pairs)) (record { key = k; value = v }), parted k (s .pairs))
+act-balanced (remove k) s h = omega (arith, parted k (s .pairs), first-rest (rounds k (s .pairs)))
+act-balanced (remove-all k out) s h = omega (arith, parted k (s .pairs))
+act-balanced (entry k) s h = omega arith
+act-balanced (occupied-append k v) s h = omega (arith, added (s .pairs) (record { key = k; value = v }))
+act-balanced (occupied-insert k v) s h = omega (arith, added (others k (s .pairs)) (record { key = k; value = v }), parted k (s .pairs), first-rest (rounds k (s .pairs)))
+act-balanced (occupied-remove-entry k) s h = omega (arith, parted k (s .pairs), first-rest (rounds k (s .pairs)))
+act-balanced (vacant-insert k v) s h = omega (arith, added (s .pairs) (record { key = k; value = v }))
+act-balanced pop-front s h = popped-one s (head? (s .pairs)) (tail (s .pairs)) (front (s .pairs))
+act-balanced pop-back s h = popped-one s (last? (s .pairs)) (dropLast (s .pairs)) (back (s .pairs))
+act-balanced (retain ms) s h = omega (arith, marked ms (s .pairs) (eqb-true _ _ (not-false _ (h .0))) (not-false _ (h .1 .0)))
+act-balanced (pack-to m n) s h = omega arith
+act-balanced clear s h = omega arith
+act-balanced (get k) s h = omega arith
+act-balanced (get-all k out) s h = omega arith
+act-balanced (entry-len k) s h = omega arith
+act-balanced (contains-key k) s h = omega arith
+act-balanced (keys out) s h = omega arith
+act-balanced keys-len s h = omega arith
+act-balanced values-len s h = omega arith
+act-balanced (iter ks vs) s h = omega arith
+act-balanced taken s h = omega arith
+
+pub step-balanced : (c : Call) (s : State) → Balanced (length (s .pairs)) (moves c s (step c s .0)) (length (step c s .1 .pairs))
+unfolding step
+step-balanced c s = go (refusal (checks c s)) refl
+  where
+    go : (o : Option ℕ) → refusal (checks c s) ≡ o → Balanced (length (s .pairs)) (moves c s (settle o c s .0)) (length (settle o c s .1 .pairs))
+    go none e = rw (accepting c s) (act-balanced c s (passed (checks c s) e))
+    go (some n) e = omega arith
+
+pub balanced : (cs : List Call) (s : State) → Balanced (length (s .pairs)) (flowOf cs s) (length (after cs s .pairs))
+unfolding flowOf after
+balanced [] s = omega arith
+balanced (c ∷ cs) s = omega (arith, step-balanced c s, balanced cs (step c s .1))
+
+-- from the empty state on: accepted = held + handed out + dropped
+pub rounds-balanced : (cs : List Call) → flowOf cs empty .accepted ≡ length (after cs empty .pairs) + flowOf cs empty .handed + flowOf cs empty .dropped
+rounds-balanced cs = omega (arith, balanced cs empty)
+
+-- an append is refused by 1 exactly when 1,024 rounds are held
+pub append-refused : (k v : ℕ) (s : State) → Proper s → (step (append k v) s .0 .answer ≡ refused 1) ↔ (length (s .pairs) ≡ maxRounds)
+unfolding step checks act
+append-refused k v s p = go (full s) (absent k s && crowded s) refl
+  where
+    go : (b c : Bool) → full s ≡ b → (settle (cond b (some 1) (cond c (some 2) none)) (append k v) s .0 .answer ≡ refused 1) ↔ (length (s .pairs) ≡ maxRounds)
+    go true c e = (λ h. omega (arith, leb-true, p .rounds), λ h. refl)
+    go false true e = (λ h. absurd (let z : _≡_ {A = ℕ} 0 1 = cc in omega arith), λ h. absurd (omega (arith, leb-false)))
+    go false false e = (λ h. absurd (let z : _≡_ {A = ℕ} 0 1 = cc in omega arith), λ h. absurd (omega (arith, leb-false)))
+
+-- the outcome of a call that stands in a list
+pub outcome-at : (before : List Call) (c : Call) (rest : List Call) (s : State) (d : Outcome)
+    → getD (outcomes (before ++ c ∷ rest) s) (length before) d ≡ step c (after before s) .0
+unfolding outcomes after
+outcome-at [] c rest s d = refl
+outcome-at (b ∷ bs) c rest s d = outcome-at bs c rest (step b s .1) d
+
+-- the same of every append in a list
+pub appends-refused : (before rest : List Call) (k v : ℕ) (d : Outcome)
+    → (getD (outcomes (before ++ append k v ∷ rest) empty) (length before) d .answer ≡ refused 1) ↔ (length (after before empty .pairs) ≡ maxRounds)
+appends-refused before rest k v d =
+    rw (outcome-at before (append k v) rest empty d)
+    (append-refused k v (after before empty) (after-proper before empty proper-empty))

@@ -1,0 +1,80 @@
+-- How a function of a map is shown to do its step: from what the step comes to. Assumes nothing.
+use mathlib.Core.Path.{_≡_, refl, ap, sym, _∙_}
+use mathlib.Core.Bool.{Bool, true, false, true≢false}
+use mathlib.Core.List.{List}
+use Prim.Native.Nat.{ℕ}
+use Rattle.steps.specs.State.{State}
+use Rattle.steps.specs.Call.{Call, Outcome, lent, refused}
+use Rattle.steps.specs.Call.{append, insert, insert-all, remove, remove-all, entry, occupied-append, occupied-insert, occupied-remove-entry, vacant-insert, pop-front, pop-back, retain, pack-to, clear, get, get-all, entry-len, contains-key, keys, keys-len, values-len, iter, taken}
+use Rattle.steps.specs.Step.{step}
+use Rattle.steps.specs.Accounting.{isRefused}
+use Rattle.steps.specs.Trace.{Kind, Does}
+
+-- is it pack_to?
+abbrev pub packs : Call → Bool
+packs (append k v) = false
+packs (insert k v) = false
+packs (insert-all k v out) = false
+packs (remove k) = false
+packs (remove-all k out) = false
+packs (entry k) = false
+packs (occupied-append k v) = false
+packs (occupied-insert k v) = false
+packs (occupied-remove-entry k) = false
+packs (vacant-insert k v) = false
+packs pop-front = false
+packs pop-back = false
+packs (retain ms) = false
+packs (pack-to a b) = true
+packs clear = false
+packs (get k) = false
+packs (get-all k out) = false
+packs (entry-len k) = false
+packs (contains-key k) = false
+packs (keys out) = false
+packs keys-len = false
+packs values-len = false
+packs (iter ks vs) = false
+packs taken = false
+
+not-pack : (c : Call) → packs c ≡ false → (a b : ℕ) → c ≡ pack-to a b → ⊥
+not-pack c h a b e = true≢false (sym (ap packs e) ∙ h)
+
+-- the outcome of a refusal by n
+abbrev pub refusing : Call → ℕ → Outcome
+refusing c n = record { answer = refused n; slices = lent c }
+
+module _ {Map : Type 0} (M : Kind Map) (c : Call) (m : Map) where
+  -- a call that leaves the map as it is: a read, a refusal, or a change that has nothing to do
+  pub does-stay : (o : Outcome) → packs c ≡ false → M .Linked m → step c (M .abs m) ≡ (o, M .abs m) → Does M c m o m
+  does-stay o p l e =
+      record {
+        outcome = sym (ap (λ (r : Outcome × State). r .0) e);
+        state = sym (ap (λ (r : Outcome × State). r .1) e);
+        linked = l;
+        same = λ r. refl;
+        packed = λ a b i r. absurd (not-pack c p a b i);
+      }
+
+  -- any refusal, pack_to's too
+  pub does-refuse : (n : ℕ) → M .Linked m → step c (M .abs m) ≡ (refusing c n, M .abs m) → Does M c m (refusing c n) m
+  does-refuse n l e =
+      record {
+        outcome = sym (ap (λ (r : Outcome × State). r .0) e);
+        state = sym (ap (λ (r : Outcome × State). r .1) e);
+        linked = l;
+        same = λ r. refl;
+        packed = λ a b i r. absurd (true≢false r);
+      }
+
+  -- a change
+  pub does-change : (o : Outcome) (s : State) (m′ : Map) → packs c ≡ false → isRefused (o .answer) ≡ false → step c (M .abs m) ≡ (o, s) → M .abs m′ ≡ s → M .Linked m′
+      → Does M c m o m′
+  does-change o s m′ p h e i l =
+      record {
+        outcome = sym (ap (λ (r : Outcome × State). r .0) e);
+        state = i ∙ sym (ap (λ (r : Outcome × State). r .1) e);
+        linked = l;
+        same = λ r. absurd (true≢false (sym r ∙ h));
+        packed = λ a b j r. absurd (not-pack c p a b j);
+      }

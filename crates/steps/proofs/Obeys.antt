@@ -1,0 +1,58 @@
+-- A map whose functions each do their step obeys every list of calls.
+use mathlib.Core.Path.{_≡_, refl, ap, ap₂, sym, subst, _∙_}
+use mathlib.Core.Logic.{_↔_}
+use mathlib.Core.Bool.{Bool, true, false}
+use mathlib.Core.List.{List, [], _∷_}
+use Prim.Native.Nat.{ℕ, _+_}
+use native.Mathlib.Omega.{arith}
+use lib.ListN.{length}
+use Rattle.steps.specs.State.{State, empty, maxRounds}
+use Rattle.steps.specs.Call.{Call, Outcome, refused, append, pack-to}
+use Rattle.steps.specs.Step.{step, after, outcomes}
+use Rattle.steps.specs.Accounting.{isRefused, Flow, moves, sum, flowOf}
+use Rattle.steps.specs.Proper.{Proper}
+use Rattle.steps.specs.Trace.{Kind, Does, Trace, stop, call, Along, flowAlong, AppendExact, RefusedSame, PackedAfter, Obeys}
+use Rattle.steps.proofs.Holds.{proper-empty, step-proper, after-proper}
+use Rattle.steps.proofs.Accounts.{append-refused, balanced}
+
+module _ {Map : Type 0} (M : Kind Map) where
+  -- from any state: the outcomes, the state, and the flow of rounds are those of the steps
+  follow : {cs : List Call} {m m′ : Map} {os : List Outcome} (t : Trace M cs m os m′) (s : State) → M .Linked m → M .abs m ≡ s
+      → (os ≡ outcomes cs s) × (M .abs m′ ≡ after cs s) × M .Linked m′ × (flowAlong M t ≡ flowOf cs s)
+  unfolding outcomes after flowOf
+  follow stop s l e = (refl, e, l, refl)
+  follow (call {c} {cs} {m} {m′} {o} d t) s l e =
+      let h : Does M c m o m′ = d l in
+      let r = follow t (step c s .1) (h .linked) (h .state ∙ ap (λ (s : State). step c s .1) e) in
+      (cc, r .1, r .2, cc)
+
+  -- what each call does, on a map that is well-linked and whose P and K are proper, holds along the list
+  along : (Q : Call → Map → Outcome → Map → Type 0)
+      → ((c : Call) (m : Map) (o : Outcome) (m′ : Map) → Proper (M .abs m) → Does M c m o m′ → Q c m o m′)
+      → {cs : List Call} {m m′ : Map} {os : List Outcome} (t : Trace M cs m os m′) → M .Linked m → Proper (M .abs m) → Along M Q t
+  along Q q stop l p = tt
+  along Q q (call {c} {cs} {m} {m′} {o} d t) l p =
+      let h : Does M c m o m′ = d l in
+      (q c m o m′ p h, along Q q t (h .linked) (subst Proper (sym (h .state)) (step-proper c (M .abs m) p)))
+
+  append-exact : (c : Call) (m : Map) (o : Outcome) (m′ : Map) → Proper (M .abs m) → Does M c m o m′ → AppendExact M c m o m′
+  append-exact c m o m′ p d k v e =
+      subst (λ (x : Outcome). (x .answer ≡ refused 1) ↔ (length (M .abs m .pairs) ≡ maxRounds))
+      (sym (d .outcome ∙ ap (λ (x : Call). step x (M .abs m) .0) e))
+      (append-refused k v (M .abs m) p)
+
+  pub obeys : {cs : List Call} {m m′ : Map} {os : List Outcome} (t : Trace M cs m os m′) → M .Linked m → M .abs m ≡ empty → Obeys M t
+  obeys {cs} {m} {m′} {os} t l e =
+      let r = follow t empty l e in
+      let p : Proper (M .abs m) = rw e proper-empty in
+      record {
+        outcomes = r .0;
+        state = r .1;
+        linked = r .2;
+        linked-all = along (λ c m o m′. M .Linked m′) (λ c m o m′ p d. d .linked) t l p;
+        balanced = rw (r .1, r .3) (omega (arith, balanced cs empty));
+        appends = along (AppendExact M) append-exact t l p;
+        proper = rw (r .1) (after-proper cs empty proper-empty);
+        same = along (RefusedSame M) (λ c m o m′ p d. d .same) t l p;
+        packed = along (PackedAfter M) (λ c m o m′ p d. d .packed) t l p;
+      }

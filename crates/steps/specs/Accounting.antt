@@ -1,0 +1,85 @@
+-- What becomes of the rounds over a list of calls: accepted, handed out, dropped, held (document 01, "The steps").
+use mathlib.Core.Bool.{Bool, true, false, cond}
+use mathlib.Core.List.{List, [], _∷_}
+use Prim.Native.Nat.{ℕ, _+_, _-_}
+use lib.Dec.{eqb}
+use lib.ListN.{length}
+use Rattle.steps.specs.Lists.{filter}
+use Rattle.steps.specs.State.{State, rounds}
+use Rattle.steps.specs.Call.{Call, Answer, Outcome, refused, none, done, round, count, present, popped, occupied, vacant}
+use Rattle.steps.specs.Call.{append, insert, insert-all, remove, remove-all, entry, occupied-append, occupied-insert, occupied-remove-entry, vacant-insert, pop-front, pop-back, retain, pack-to, clear, get, get-all, entry-len, contains-key, keys, keys-len, values-len, iter, taken}
+use Rattle.steps.specs.Step.{step}
+
+-- how many of a test's elements a list has
+abbrev pub times : {A : Type 0} → (A → Bool) → List A → ℕ
+times f l = length (filter f l)
+
+abbrev pub isRefused : Answer → Bool
+isRefused (refused n) = true
+isRefused none = false
+isRefused done = false
+isRefused (round v) = false
+isRefused (count n) = false
+isRefused (present b) = false
+isRefused (popped k v b) = false
+isRefused (occupied n) = false
+isRefused (vacant k) = false
+
+-- the rounds in an answer, or counted by it as written out
+abbrev pub roundsIn : Answer → ℕ
+roundsIn (refused n) = 0
+roundsIn none = 0
+roundsIn done = 0
+roundsIn (round v) = 1
+roundsIn (count n) = n
+roundsIn (present b) = 0
+roundsIn (popped k v b) = 1
+roundsIn (occupied n) = 0
+roundsIn (vacant k) = 0
+
+pub record Flow : Type 0 where
+  pub accepted : ℕ
+  pub handed : ℕ
+  pub dropped : ℕ
+
+abbrev flow : ℕ → ℕ → ℕ → Flow
+flow a h d = record { accepted = a; handed = h; dropped = d }
+
+-- the rounds that a call accepts, hands out and drops that is not refused, from the state before it and its answer
+unfoldable pub moved : Call → State → Answer → Flow
+moved (append k v) s a = flow 1 0 0
+moved (insert k v) s a = flow 1 (roundsIn a) (length (rounds k (s .pairs)) - 1)
+moved (insert-all k v out) s a = flow 1 (roundsIn a) 0
+moved (remove k) s a = flow 0 (roundsIn a) (length (rounds k (s .pairs)) - 1)
+moved (remove-all k out) s a = flow 0 (roundsIn a) 0
+moved (entry k) s a = flow 0 0 0
+moved (occupied-append k v) s a = flow 1 (roundsIn a) 0
+moved (occupied-insert k v) s a = flow 1 (roundsIn a) (length (rounds k (s .pairs)) - 1)
+moved (occupied-remove-entry k) s a = flow 0 (roundsIn a) (length (rounds k (s .pairs)) - 1)
+moved (vacant-insert k v) s a = flow 1 0 0
+moved pop-front s a = flow 0 (roundsIn a) 0
+moved pop-back s a = flow 0 (roundsIn a) 0
+moved (retain marks) s a = flow 0 0 (times (eqb 0) marks)
+moved (pack-to m n) s a = flow 0 0 0
+moved clear s a = flow 0 0 (length (s .pairs))
+moved (get k) s a = flow 0 0 0
+moved (get-all k out) s a = flow 0 0 0
+moved (entry-len k) s a = flow 0 0 0
+moved (contains-key k) s a = flow 0 0 0
+moved (keys out) s a = flow 0 0 0
+moved keys-len s a = flow 0 0 0
+moved values-len s a = flow 0 0 0
+moved (iter ks vs) s a = flow 0 0 0
+moved taken s a = flow 0 0 0
+
+-- the same of any call: a refused one moves none
+abbrev pub moves : Call → State → Outcome → Flow
+moves c s o = cond (isRefused (o .answer)) (flow 0 0 0) (moved c s (o .answer))
+
+-- the same over a list of calls
+abbrev pub sum : Flow → Flow → Flow
+sum f g = flow (f .accepted + g .accepted) (f .handed + g .handed) (f .dropped + g .dropped)
+
+unfoldable pub flowOf : List Call → State → Flow
+flowOf [] s = flow 0 0 0
+flowOf (c ∷ cs) s = sum (moves c s (step c s .0)) (flowOf cs (step c s .1))

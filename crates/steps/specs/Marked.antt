@@ -1,0 +1,77 @@
+-- The ten marked cases of document 01, proved of the steps as a single table.
+use mathlib.Core.Path.{_≡_, refl, ap}
+use mathlib.Core.Bool.{Bool, true, false, cond}
+use mathlib.Core.List.{List, [], _∷_, _++_, map}
+use Prim.Native.Nat.{ℕ, zero, suc, _<_}
+use native.Mathlib.Nat.{not-suc-le-zero, le-of-suc-le-suc}
+use lib.Dec.{eqb}
+use lib.ListN.{length, getD}
+use Rattle.steps.specs.Lists.{any}
+use Rattle.steps.specs.State.{State, Pair}
+use Rattle.steps.specs.Call.{Call, Outcome, refused, none, done, round, count, present, popped, append, insert-all, remove-all, pop-front, pop-back, retain, pack-to}
+use Rattle.steps.specs.Step.{step, say, write, checks, act}
+
+infixr 90 _∶_
+-- a pair, as the document writes it
+abbrev pub _∶_ : ℕ → ℕ → Pair
+k ∶ v = record { key = k; value = v }
+
+-- the members in order of first appearance, after those already met
+abbrev pub firsts : List ℕ → List Pair → List ℕ
+firsts met [] = met
+firsts met (p ∷ ps) = firsts (cond (any (eqb (p .key)) met) met (met ++ (p .key ∷ []))) ps
+
+abbrev pub start : List Pair → State
+start ps = record { pairs = ps; members = firsts [] ps; taken = length ps }
+
+-- a case: P; the call; its outcome; P and K afterwards
+pub record Row : Type 0 where
+  pub before : List Pair
+  pub call : Call
+  pub outcome : Outcome
+  pub pairs : List Pair
+  pub members : List ℕ
+
+abbrev row : List Pair → Call → Outcome → List Pair → List ℕ → Row
+row before call outcome pairs members =
+    record { before = before; call = call; outcome = outcome; pairs = pairs; members = members }
+
+abbrev pub table : List Row
+table =
+    row [] pop-front (say none) [] []
+    ∷ row [] (append 7 10) (say (present false)) (7 ∶ 10 ∷ []) (7 ∷ [])
+    ∷ row (7 ∶ 10 ∷ []) (append 7 11) (say (present true)) (7 ∶ 10 ∷ 7 ∶ 11 ∷ []) (7 ∷ [])
+    ∷ row (7 ∶ 10 ∷ 9 ∶ 20 ∷ 7 ∶ 11 ∷ []) (insert-all 7 12 (1 ∷ 2 ∷ 3 ∷ []))
+    (write (count 2) (10 ∷ 11 ∷ 3 ∷ [])) (9 ∶ 20 ∷ 7 ∶ 12 ∷ []) (7 ∷ 9 ∷ [])
+    ∷ row (9 ∶ 20 ∷ []) (remove-all 5 (1 ∷ [])) (write (count 0) (1 ∷ [])) (9 ∶ 20 ∷ []) (9 ∷ [])
+    ∷ row (9 ∶ 20 ∷ 7 ∶ 12 ∷ []) pop-back (say (popped 7 12 true)) (9 ∶ 20 ∷ []) (9 ∷ [])
+    ∷ row (7 ∶ 10 ∷ 7 ∶ 11 ∷ []) pop-front (say (popped 7 10 false)) (7 ∶ 11 ∷ []) (7 ∷ [])
+    ∷ row (7 ∶ 10 ∷ 7 ∶ 11 ∷ 7 ∶ 12 ∷ []) (retain (0 ∷ 0 ∷ 1 ∷ []))
+    (say (count 1)) (7 ∶ 12 ∷ []) (7 ∷ [])
+    ∷ row (7 ∶ 10 ∷ 7 ∶ 11 ∷ []) (retain (0 ∷ 0 ∷ [])) (say (count 0)) [] []
+    ∷ row (7 ∶ 10 ∷ 9 ∶ 20 ∷ []) (pack-to 1 2) (say (refused 4)) (7 ∶ 10 ∷ 9 ∶ 20 ∷ []) (7 ∷ 9 ∷ [])
+    ∷ []
+
+-- what the steps give at a row: the outcome, P and K; and what the row says
+abbrev pub Seen : Type 0
+Seen = Outcome × List Pair × List ℕ
+
+abbrev pub given : Row → Seen
+given r = let d : Outcome × State = step (r .call) (start (r .before)) in (d .0, d .1 .pairs, d .1 .members)
+
+abbrev pub wanted : Row → Seen
+wanted r = (r .outcome, r .pairs, r .members)
+
+-- lists that two functions map alike: the functions agree at each entry
+at : {A B : Type 0} (f g : A → B) (l : List A) (d : A) → map f l ≡ map g l → (i : ℕ) → i < length l → f (getD l i d) ≡ g (getD l i d)
+at f g [] d e i h = absurd (not-suc-le-zero h)
+at f g (x ∷ xs) d e zero h = cc
+at f g (x ∷ xs) d e (suc i) h = at f g xs d (cc) i (le-of-suc-le-suc h)
+
+pub marked : map given table ≡ map wanted table
+unfolding step act checks
+marked = refl
+
+-- each row, by its place from 0
+pub marked-at : (d : Row) (i : ℕ) → i < 10 → given (getD table i d) ≡ wanted (getD table i d)
+marked-at d i h = at given wanted table d marked i h

@@ -1,0 +1,15 @@
+-- What holds of P and K from the empty state on (document 01, modules 6 and "Believing K follows from P").
+use mathlib.Core.Path.{_≡_}
+use mathlib.Core.Bool.{Bool, cond}
+use Prim.Native.Nat.{ℕ, _≤_}
+use lib.Dec.{eqb}
+use lib.ListN.{length}
+use Rattle.steps.specs.State.{State, has, maxRounds, maxMembers, maxTaken}
+use Rattle.steps.specs.Accounting.{times}
+
+pub record Proper (s : State) : Type 0 where
+  -- K holds each member of P exactly once, and no other
+  pub once : (k : ℕ) → times (eqb k) (s .members) ≡ cond (has k (s .pairs)) 1 0
+  pub rounds : length (s .pairs) ≤ maxRounds
+  pub members : length (s .members) ≤ maxMembers
+  pub taken : s .taken ≤ maxTaken

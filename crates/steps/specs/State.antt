@@ -1,0 +1,99 @@
+-- The state of the steps (document 01, "The steps"), and what the steps do to it.
+use mathlib.Core.Bool.{Bool, true, false, cond, not, _&&_, _||_}
+use mathlib.Core.List.{List, [], _∷_, _++_, map}
+use Prim.Native.Nat.{ℕ, _+_, min}
+use lib.Dec.{eqb, leb}
+use lib.ListN.{length, drop}
+use Rattle.steps.specs.Lists.{filter, any}
+
+-- A pair (member, round).
+pub record Pair : Type 0 where
+  pub key : ℕ
+  pub value : ℕ
+
+pub record State : Type 0 where
+  -- P of document 01: the pairs in global order
+  pub pairs : List Pair
+  -- K: the members in joining order
+  pub members : List ℕ
+  -- T: the rounds ever taken in
+  pub taken : ℕ
+
+abbrev pub empty : State
+empty = record { pairs = []; members = []; taken = 0 }
+
+-- The limits of a map, and the ceiling of T.
+abbrev pub maxRounds : ℕ
+maxRounds = 1024
+
+abbrev pub maxMembers : ℕ
+maxMembers = 256
+
+abbrev pub maxTaken : ℕ
+maxTaken = 4294967295
+
+-- Is this a pair of k?
+abbrev pub of : ℕ → Pair → Bool
+of k p = eqb k (p .key)
+
+-- Has k a pair among these?
+abbrev pub has : ℕ → List Pair → Bool
+has k ps = any (of k) ps
+
+-- The record of k: the rounds of its pairs, in order.
+abbrev pub rounds : ℕ → List Pair → List ℕ
+rounds k ps = map (λ p. p .value) (filter (of k) ps)
+
+-- The pairs of the other members.
+abbrev pub others : ℕ → List Pair → List Pair
+others k ps = filter (λ p. not (of k p)) ps
+
+-- The pairs with mark 1.
+abbrev pub kept : List ℕ → List Pair → List Pair
+kept [] ps = []
+kept (m ∷ ms) [] = []
+kept (m ∷ ms) (p ∷ ps) = cond (eqb 1 m) (p ∷ kept ms ps) (kept ms ps)
+
+abbrev pub present : ℕ → State → Bool
+present k s = any (eqb k) (s .members)
+
+abbrev pub absent : ℕ → State → Bool
+absent k s = not (present k s)
+
+-- As many rounds are held as a map has.
+abbrev pub full : State → Bool
+full s = leb maxRounds (length (s .pairs))
+
+-- As many members are held as a map has.
+abbrev pub crowded : State → Bool
+crowded s = leb maxMembers (length (s .members))
+
+-- k leaves K.
+abbrev pub leave : ℕ → List ℕ → List ℕ
+leave k ks = filter (λ j. not (eqb k j)) ks
+
+-- Adding (k, v): the pair goes to the back of P, a new k to the back of K, and T counts it up to its ceiling.
+abbrev pub add : ℕ → ℕ → State → State
+add k v s =
+    record {
+      pairs = s .pairs ++ (record { key = k; value = v } ∷ []);
+      members = cond (present k s) (s .members) (s .members ++ (k ∷ []));
+      taken = min (s .taken + 1) maxTaken;
+    }
+
+-- k's old pairs leave P and (k, v) is added; a present k keeps its place in K.
+abbrev pub replace : ℕ → ℕ → State → State
+replace k v s = add k v (record { pairs = others k (s .pairs); members = s .members; taken = s .taken })
+
+-- k's pairs leave P, and k leaves K.
+abbrev pub remove-member : ℕ → State → State
+remove-member k s = record { pairs = others k (s .pairs); members = leave k (s .members); taken = s .taken }
+
+-- The pair p has left P, with `rest` remaining; its member leaves K where no pair of it remains.
+abbrev pub remove-pair : Pair → List Pair → State → State
+remove-pair p rest s =
+    record { pairs = rest; members = cond (has (p .key) rest) (s .members) (leave (p .key) (s .members)); taken = s .taken }
+
+-- Of P only these pairs are kept; members without a pair leave K.
+abbrev pub keep : List Pair → State → State
+keep ps s = record { pairs = ps; members = filter (λ k. has k ps) (s .members); taken = s .taken }

@@ -1,0 +1,69 @@
+-- A list of calls on a map, each call on the map that the one before gave back; and what is claimed of the list as a whole (demand 3).
+use mathlib.Core.Path.{_≡_}
+use mathlib.Core.Logic.{_↔_}
+use mathlib.Core.Bool.{Bool, true, false}
+use mathlib.Core.List.{List, [], _∷_}
+use Prim.Native.Nat.{ℕ, _+_}
+use lib.ListN.{length}
+use Rattle.steps.specs.State.{State, empty, maxRounds}
+use Rattle.steps.specs.Call.{Call, Outcome, refused, append, pack-to}
+use Rattle.steps.specs.Step as S
+use Rattle.steps.specs.Step.{step, after}
+use Rattle.steps.specs.Accounting.{isRefused, Flow, moves, sum}
+use Rattle.steps.specs.Proper.{Proper}
+
+-- a kind of map: the state that one represents; what it is to be well-linked; and to have its places as pack_to leaves them
+pub record Kind (Map : Type 0) : Type 1 where
+  pub abs : Map → State
+  pub Linked : Map → Type 0
+  pub Packed : Map → Type 0
+
+module _ {Map : Type 0} (M : Kind Map) where
+  -- what the function of a call ensures: m is the map that it is given, o its outcome and m′ the map that it gives back
+  pub record Does (c : Call) (m : Map) (o : Outcome) (m′ : Map) : Type 0 where
+    pub outcome : o ≡ step c (M .abs m) .0
+    pub state : M .abs m′ ≡ step c (M .abs m) .1
+    pub linked : M .Linked m′
+    pub same : isRefused (o .answer) ≡ true → m′ ≡ m
+    pub packed : (a b : ℕ) → c ≡ pack-to a b → isRefused (o .answer) ≡ false → M .Packed m′
+
+  -- the calls of a list, from a map to a map, with their outcomes. Each function requires that its map is well-linked
+  pub data Trace : List Call → Map → List Outcome → Map → Type 0 where
+    stop : {m : Map} → Trace [] m [] m
+    call : {c : Call} {cs : List Call} {m m′ m″ : Map} {o : Outcome} {os : List Outcome}
+        → (M .Linked m → Does c m o m′) → Trace cs m′ os m″ → Trace (c ∷ cs) m (o ∷ os) m″
+
+  -- Q holds at each call of a list: of the call, the map before it, its outcome and the map after it
+  abbrev pub Along : (Q : Call → Map → Outcome → Map → Type 0) {cs : List Call} {m m′ : Map} {os : List Outcome} → Trace cs m os m′ → Type 0
+  Along Q stop = Unit {0}
+  Along Q (call {c} {m} {m′} {o} d t) = Q c m o m′ × Along Q t
+
+  -- the rounds accepted, handed out and dropped, by what the map held and answered
+  abbrev pub flowAlong : {cs : List Call} {m m′ : Map} {os : List Outcome} → Trace cs m os m′ → Flow
+  flowAlong stop = record { accepted = 0; handed = 0; dropped = 0 }
+  flowAlong (call {c} {m} {o} d t) = sum (moves c (M .abs m) o) (flowAlong t)
+
+  -- an append is refused by 1 exactly when 1,024 rounds are held just before it
+  abbrev pub AppendExact : Call → Map → Outcome → Map → Type 0
+  AppendExact c m o m′ = (k v : ℕ) → c ≡ append k v → (o .answer ≡ refused 1) ↔ (length (M .abs m .pairs) ≡ maxRounds)
+
+  -- a refused call gives back its very map
+  abbrev pub RefusedSame : Call → Map → Outcome → Map → Type 0
+  RefusedSame c m o m′ = isRefused (o .answer) ≡ true → m′ ≡ m
+
+  -- right after a pack_to that is not refused, the places are as the step says
+  abbrev pub PackedAfter : Call → Map → Outcome → Map → Type 0
+  PackedAfter c m o m′ = (a b : ℕ) → c ≡ pack-to a b → isRefused (o .answer) ≡ false → M .Packed m′
+
+  -- the claim about a list of calls on an empty map, as a whole
+  pub record Obeys {cs : List Call} {m m′ : Map} {os : List Outcome} (t : Trace cs m os m′) : Type 0 where
+    -- the outcomes, and P, K and T, are those of the steps, which start from their own empty state
+    pub outcomes : os ≡ S.outcomes cs empty
+    pub state : M .abs m′ ≡ after cs empty
+    pub linked : M .Linked m′
+    pub linked-all : Along (λ c m o m′. M .Linked m′) t
+    pub balanced : flowAlong t .accepted ≡ length (M .abs m′ .pairs) + flowAlong t .handed + flowAlong t .dropped
+    pub appends : Along AppendExact t
+    pub proper : Proper (M .abs m′)
+    pub same : Along RefusedSame t
+    pub packed : Along PackedAfter t
