@@ -4,9 +4,9 @@ use mathlib.Core.Bool.{Bool, true, false, true≢false}
 use mathlib.Core.List.{List}
 use Prim.Native.Nat.{ℕ}
 use Rattle.steps.specs.State.{State}
-use Rattle.steps.specs.Call.{Call, Outcome, lent, refused}
+use Rattle.steps.specs.Call.{Call, Outcome}
 use Rattle.steps.specs.Call.{append, insert, insert-all, remove, remove-all, entry, occupied-append, occupied-insert, occupied-remove-entry, vacant-insert, pop-front, pop-back, retain, pack-to, clear, get, get-all, entry-len, contains-key, keys, keys-len, values-len, iter, taken}
-use Rattle.steps.specs.Step.{step}
+use Rattle.steps.specs.Step.{step, refusing}
 use Rattle.steps.specs.Accounting.{isRefused}
 use Rattle.steps.specs.Trace.{Kind, Does}
 
@@ -39,10 +39,6 @@ packs taken = false
 
 not-pack : (c : Call) → packs c ≡ false → (a b : ℕ) → c ≡ pack-to a b → ⊥
 not-pack c h a b e = true≢false (sym (ap packs e) ∙ h)
-
--- the outcome of a refusal by n
-abbrev pub refusing : Call → ℕ → Outcome
-refusing c n = record { answer = refused n; slices = lent c }
 
 module _ {Map : Type 0} (M : Kind Map) (c : Call) (m : Map) where
   -- a call that leaves the map as it is: a read, a refusal, or a change that has nothing to do

@@ -1,7 +1,9 @@
+pub mod Marked
+pub mod Refusals
 pub mod Filter
 pub mod Keeps
-pub mod Holds
-pub mod Accounts
+pub mod Proper
+pub mod Sums
+pub mod Taken
 pub mod Obeys
 pub mod Doing
-pub mod Edges

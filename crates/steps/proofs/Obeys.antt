@@ -12,8 +12,9 @@ use Rattle.steps.specs.Step.{step, after, outcomes}
 use Rattle.steps.specs.Accounting.{isRefused, Flow, moves, sum, flowOf}
 use Rattle.steps.specs.Proper.{Proper}
 use Rattle.steps.specs.Trace.{Kind, Does, Trace, stop, call, Along, flowAlong, AppendExact, RefusedSame, PackedAfter, Obeys}
-use Rattle.steps.proofs.Holds.{proper-empty, step-proper, after-proper}
-use Rattle.steps.proofs.Accounts.{append-refused, balanced}
+use Rattle.steps.proofs.Proper.{proper-empty, step-proper, after-proper}
+use Rattle.steps.proofs.Taken.{taken-counts}
+use Rattle.steps.proofs.Sums.{append-refused, balanced}
 
 module _ {Map : Type 0} (M : Kind Map) where
   -- from any state: the outcomes, the state, and the flow of rounds are those of the steps
@@ -51,6 +52,7 @@ module _ {Map : Type 0} (M : Kind Map) where
         linked = r .2;
         linked-all = along (λ c m o m′. M .Linked m′) (λ c m o m′ p d. d .linked) t l p;
         balanced = rw (r .1, r .3) (omega (arith, balanced cs empty));
+        counted = rw (r .1, r .3) (taken-counts cs);
         appends = along (AppendExact M) append-exact t l p;
         proper = rw (r .1) (after-proper cs empty proper-empty);
         same = along (RefusedSame M) (λ c m o m′ p d. d .same) t l p;

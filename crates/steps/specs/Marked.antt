@@ -1,15 +1,13 @@
--- The ten marked cases of document 01, proved of the steps as a single table.
-use mathlib.Core.Path.{_≡_, refl, ap}
+-- The ten marked cases of document 01, as a single table. proofs/Marked.antt proves it of the steps.
 use mathlib.Core.Bool.{Bool, true, false, cond}
 use mathlib.Core.List.{List, [], _∷_, _++_, map}
-use Prim.Native.Nat.{ℕ, zero, suc, _<_}
-use native.Mathlib.Nat.{not-suc-le-zero, le-of-suc-le-suc}
+use Prim.Native.Nat.{ℕ}
 use lib.Dec.{eqb}
-use lib.ListN.{length, getD}
+use lib.ListN.{length}
 use Rattle.steps.specs.Lists.{any}
 use Rattle.steps.specs.State.{State, Pair}
 use Rattle.steps.specs.Call.{Call, Outcome, refused, none, done, round, count, present, popped, append, insert-all, remove-all, pop-front, pop-back, retain, pack-to}
-use Rattle.steps.specs.Step.{step, say, write, checks, act}
+use Rattle.steps.specs.Step.{step, say, write}
 
 infixr 90 _∶_
 -- a pair, as the document writes it
@@ -61,17 +59,3 @@ given r = let d : Outcome × State = step (r .call) (start (r .before)) in (d .0
 
 abbrev pub wanted : Row → Seen
 wanted r = (r .outcome, r .pairs, r .members)
-
--- lists that two functions map alike: the functions agree at each entry
-at : {A B : Type 0} (f g : A → B) (l : List A) (d : A) → map f l ≡ map g l → (i : ℕ) → i < length l → f (getD l i d) ≡ g (getD l i d)
-at f g [] d e i h = absurd (not-suc-le-zero h)
-at f g (x ∷ xs) d e zero h = cc
-at f g (x ∷ xs) d e (suc i) h = at f g xs d (cc) i (le-of-suc-le-suc h)
-
-pub marked : map given table ≡ map wanted table
-unfolding step act checks
-marked = refl
-
--- each row, by its place from 0
-pub marked-at : (d : Row) (i : ℕ) → i < 10 → given (getD table i d) ≡ wanted (getD table i d)
-marked-at d i h = at given wanted table d marked i h

@@ -119,9 +119,13 @@ act (iter ks vs) s =
     (record { answer = count (length (s .pairs)); slices = lend (over (map (λ p. p .key) (s .pairs)) ks) (over (map (λ p. p .value) (s .pairs)) vs) }, s)
 act taken s = (say (count (s .taken)), s)
 
--- a refusal answers its number, and leaves the slices and the state as they are
+-- the outcome of a refusal by n: its number, and the slices as they were
+abbrev pub refusing : Call → ℕ → Outcome
+refusing c n = record { answer = refused n; slices = lent c }
+
+-- a refusal leaves the state as it is
 abbrev pub settle : Option ℕ → Call → State → Outcome × State
-settle (some n) c s = (record { answer = refused n; slices = lent c }, s)
+settle (some n) c s = (refusing c n, s)
 settle Opt.none c s = act c s
 
 unfoldable pub step : Call → State → Outcome × State

@@ -3,9 +3,9 @@ use mathlib.Core.Path.{_≡_}
 use mathlib.Core.Logic.{_↔_}
 use mathlib.Core.Bool.{Bool, true, false}
 use mathlib.Core.List.{List, [], _∷_}
-use Prim.Native.Nat.{ℕ, _+_}
+use Prim.Native.Nat.{ℕ, _+_, min}
 use lib.ListN.{length}
-use Rattle.steps.specs.State.{State, empty, maxRounds}
+use Rattle.steps.specs.State.{State, empty, maxRounds, maxTaken}
 use Rattle.steps.specs.Call.{Call, Outcome, refused, append, pack-to}
 use Rattle.steps.specs.Step as S
 use Rattle.steps.specs.Step.{step, after}
@@ -63,6 +63,8 @@ module _ {Map : Type 0} (M : Kind Map) where
     pub linked : M .Linked m′
     pub linked-all : Along (λ c m o m′. M .Linked m′) t
     pub balanced : flowAlong t .accepted ≡ length (M .abs m′ .pairs) + flowAlong t .handed + flowAlong t .dropped
+    -- T is the accepted rounds, or its ceiling
+    pub counted : M .abs m′ .taken ≡ min (flowAlong t .accepted) maxTaken
     pub appends : Along AppendExact t
     pub proper : Proper (M .abs m′)
     pub same : Along RefusedSame t

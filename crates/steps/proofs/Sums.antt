@@ -18,51 +18,12 @@ use Rattle.steps.specs.Step.{Check, checks, refusal, first, entryOf, pop
 use Rattle.steps.specs.Accounting.{times, isRefused, roundsIn, Flow, moved, moves, sum, flowOf}
 use Rattle.steps.specs.Proper.{Proper}
 use Rattle.steps.proofs.Filter.{length-split}
-use Rattle.steps.proofs.Holds.{Pass, passed, End, nothing, pair, front, back, proper-empty, step-proper, after-proper}
+use Rattle.steps.proofs.Refusals.{accepting}
+use Rattle.steps.proofs.Proper.{Pass, passed, End, nothing, pair, front, back, proper-empty, step-proper, after-proper}
 
 -- n rounds held before, those of the flow accepted, handed out and dropped, and m held after
 abbrev pub Balanced : ℕ → Flow → ℕ → Type 0
 Balanced n f m = n + f .accepted ≡ m + f .handed + f .dropped
-
--- a call that is not refused does not answer that it is
-accepting-first : (l : List ℕ) → isRefused (first l) ≡ false
-accepting-first [] = refl
-accepting-first (v ∷ vs) = refl
-
-accepting-pop : (o : Option Pair) (rest : List Pair) (s : State) → isRefused (pop o rest s .0 .answer) ≡ false
-accepting-pop none rest s = refl
-accepting-pop (some p) rest s = refl
-
-accepting-entry : (b : Bool) (k : ℕ) (s : State) → isRefused (entryOf b k s) ≡ false
-accepting-entry true k s = refl
-accepting-entry false k s = refl
-
-pub accepting : (c : Call) (s : State) → isRefused (act c s .0 .answer) ≡ false
-unfolding act
-accepting (append k v) s = refl
-accepting (insert k v) s = accepting-first (rounds k (s .pairs))
-accepting (insert-all k v out) s = refl
-accepting (remove k) s = accepting-first (rounds k (s .pairs))
-accepting (remove-all k out) s = refl
-accepting (entry k) s = accepting-entry (St.present k s) k s
-accepting (occupied-append k v) s = refl
-accepting (occupied-insert k v) s = accepting-first (rounds k (s .pairs))
-accepting (occupied-remove-entry k) s = accepting-first (rounds k (s .pairs))
-accepting (vacant-insert k v) s = refl
-accepting pop-front s = accepting-pop (head? (s .pairs)) (tail (s .pairs)) s
-accepting pop-back s = accepting-pop (last? (s .pairs)) (dropLast (s .pairs)) s
-accepting (retain ms) s = refl
-accepting (pack-to m n) s = refl
-accepting clear s = refl
-accepting (get k) s = accepting-first (rounds k (s .pairs))
-accepting (get-all k out) s = refl
-accepting (entry-len k) s = refl
-accepting (contains-key k) s = refl
-accepting (keys out) s = refl
-accepting keys-len s = refl
-accepting values-len s = refl
-accepting (iter ks vs) s = refl
-accepting taken s = refl
 
 added : (ps : List Pair) (p : Pair) → length (ps ++ (p ∷ [])) ≡ length ps + 1
 added ps p = length-append ps (p ∷ [])

@@ -1,0 +1,65 @@
+-- T counts the adds that are not refused, up to its ceiling. Assumes nothing.
+use mathlib.Core.Path.{_≡_, refl, sym, _∙_}
+use mathlib.Core.Bool.{Bool, true, false}
+use mathlib.Core.List.{List, [], _∷_, head?, tail, dropLast}
+use mathlib.Core.Option.{Option, none, some}
+use Prim.Native.Nat.{ℕ, _+_, _≤_, min}
+use native.Mathlib.Omega.{arith}
+use Rattle.steps.specs.Lists.{last?}
+use Rattle.steps.specs.State.{State, Pair, empty, maxTaken}
+use Rattle.steps.specs.Call.{Call, Outcome}
+use Rattle.steps.specs.Call.{append, insert, insert-all, remove, remove-all, entry, occupied-append, occupied-insert, occupied-remove-entry, vacant-insert, pop-front, pop-back, retain, pack-to, clear, get, get-all, entry-len, contains-key, keys, keys-len, values-len, iter, taken}
+use Rattle.steps.specs.Step.{checks, refusal, pop, act, settle, step, after}
+use Rattle.steps.specs.Accounting.{moved, moves, flowOf}
+use Rattle.steps.specs.Proper.{Proper}
+use Rattle.steps.proofs.Proper.{step-proper, proper-empty}
+use Rattle.steps.proofs.Refusals.{accepting}
+
+pop-taken : (o : Option Pair) (rest : List Pair) (s : State) → pop o rest s .1 .taken ≡ s .taken
+pop-taken none rest s = refl
+pop-taken (some p) rest s = refl
+
+act-taken : (c : Call) (s : State) → s .taken ≤ maxTaken
+    → act c s .1 .taken ≡ min (s .taken + moved c s (act c s .0 .answer) .accepted) maxTaken
+unfolding act moved
+act-taken (append k v) s h = refl
+act-taken (insert k v) s h = refl
+act-taken (insert-all k v out) s h = refl
+act-taken (remove k) s h = omega arith
+act-taken (remove-all k out) s h = omega arith
+act-taken (entry k) s h = omega arith
+act-taken (occupied-append k v) s h = refl
+act-taken (occupied-insert k v) s h = refl
+act-taken (occupied-remove-entry k) s h = omega arith
+act-taken (vacant-insert k v) s h = refl
+act-taken pop-front s h = rw (pop-taken (head? (s .pairs)) (tail (s .pairs)) s) (omega arith)
+act-taken pop-back s h = rw (pop-taken (last? (s .pairs)) (dropLast (s .pairs)) s) (omega arith)
+act-taken (retain ms) s h = omega arith
+act-taken (pack-to m n) s h = omega arith
+act-taken clear s h = omega arith
+act-taken (get k) s h = omega arith
+act-taken (get-all k out) s h = omega arith
+act-taken (entry-len k) s h = omega arith
+act-taken (contains-key k) s h = omega arith
+act-taken (keys out) s h = omega arith
+act-taken keys-len s h = omega arith
+act-taken values-len s h = omega arith
+act-taken (iter ks vs) s h = omega arith
+act-taken taken s h = omega arith
+
+step-taken : (c : Call) (s : State) → s .taken ≤ maxTaken → step c s .1 .taken ≡ min (s .taken + moves c s (step c s .0) .accepted) maxTaken
+unfolding step
+step-taken c s h = go (refusal (checks c s))
+  where
+    go : (o : Option ℕ) → settle o c s .1 .taken ≡ min (s .taken + moves c s (settle o c s .0) .accepted) maxTaken
+    go none = rw (accepting c s) (act-taken c s h)
+    go (some n) = omega arith
+
+counts : (cs : List Call) (s : State) → Proper s → after cs s .taken ≡ min (s .taken + flowOf cs s .accepted) maxTaken
+unfolding after flowOf
+counts [] s p = omega (arith, p .taken)
+counts (c ∷ cs) s p = omega (arith, p .taken, step-taken c s (p .taken), counts cs (step c s .1) (step-proper c s p))
+
+-- from the empty state on: T is the accepted rounds, or its ceiling
+pub taken-counts : (cs : List Call) → after cs empty .taken ≡ min (flowOf cs empty .accepted) maxTaken
+taken-counts cs = omega (arith, counts cs empty proper-empty)
