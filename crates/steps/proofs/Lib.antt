@@ -1,5 +1,5 @@
 pub mod Marked
-pub mod Refusals
+pub mod Checks
 pub mod Filter
 pub mod Keeps
 pub mod Proper

@@ -18,7 +18,7 @@ use Rattle.steps.specs.Step.{Check, checks, refusal, first, entryOf, pop
 use Rattle.steps.specs.Accounting.{times, isRefused, roundsIn, Flow, moved, moves, sum, flowOf}
 use Rattle.steps.specs.Proper.{Proper}
 use Rattle.steps.proofs.Filter.{length-split}
-use Rattle.steps.proofs.Refusals.{accepting}
+use Rattle.steps.proofs.Checks.{accepting}
 use Rattle.steps.proofs.Proper.{Pass, passed, End, nothing, pair, front, back, proper-empty, step-proper, after-proper}
 
 -- n rounds held before, those of the flow accepted, handed out and dropped, and m held after

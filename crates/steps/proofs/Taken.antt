@@ -13,7 +13,7 @@ use Rattle.steps.specs.Step.{checks, refusal, pop, act, settle, step, af
 use Rattle.steps.specs.Accounting.{moved, moves, flowOf}
 use Rattle.steps.specs.Proper.{Proper}
 use Rattle.steps.proofs.Proper.{step-proper, proper-empty}
-use Rattle.steps.proofs.Refusals.{accepting}
+use Rattle.steps.proofs.Checks.{accepting}
 
 pop-taken : (o : Option Pair) (rest : List Pair) (s : State) → pop o rest s .1 .taken ≡ s .taken
 pop-taken none rest s = refl
