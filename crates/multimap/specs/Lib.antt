@@ -1,3 +1,4 @@
 pub mod Map
 pub mod WellLinked
 pub mod Answers
+pub mod Links
