@@ -36,6 +36,12 @@ module _ {Map : Type 0} (M : Kind Map) where
       let h : Does M c m o m′ = d l in
       (q c m o m′ p h, along Q q t (h .linked) (subst Proper (sym (h .state)) (step-proper c (M .abs m) p)))
 
+  -- what holds of every well-linked map holds after each call
+  pub along-linked : (Q : Map → Type 0) → ((m : Map) → M .Linked m → Q m) → {cs : List Call} {m m′ : Map} {os : List Outcome} (t : Trace M cs m os m′) → M .Linked m
+      → Along M (λ c m o m′. Q m′) t
+  along-linked Q q stop l = tt
+  along-linked Q q (call {m′} d t) l = let h = d l in (q m′ (h .linked), along-linked Q q t (h .linked))
+
   append-exact : (c : Call) (m : Map) (o : Outcome) (m′ : Map) → Proper (M .abs m) → Does M c m o m′ → AppendExact M c m o m′
   append-exact c m o m′ p d k v e =
       subst (λ (x : Outcome). (x .answer ≡ refused 1) ↔ (length (M .abs m .pairs) ≡ maxRounds))
