@@ -1,15 +1,15 @@
 -- The search in an index that holds a list of key places finds what it should.
 -- Assumes nothing.
 use mathlib.Core.Path.{_≡_, refl, sym, _∙_, ap, subst}
-use mathlib.Core.List.{List, [], _∷_, List·Memᴰ}
-use mathlib.Core.Logic.{_⊎_, inl, inr, ⊎-elim}
+use mathlib.Core.List.{List, List·Memᴰ}
+use mathlib.Core.Logic.{_⊎_, ⊎-elim}
 use Prim.Native.Nat.{ℕ, zero, suc, _+_, _%_, _<_, _≤_}
 use native.Mathlib.Omega.{arith}
-use lib.ListN.{length, getD}
+use lib.ListN.{getD}
 use Rattle.index.specs.declared.KeyPlace.{KeyPlace}
 use Rattle.index.specs.declared.Found.{Found}
 use Rattle.index.specs.declared.Found.the-variants.{At, Absent}
-use Rattle.index.specs.Table.{Holds, Vacant, dist, home, without}
+use Rattle.index.specs.Table.{Holds, Vacant, dist, home}
 use Rattle.index.specs.Search.{look, search as searched, Says, placeOf}
 use Rattle.index.proofs.Cycle.{dist-lt, dist-self, dist-inj, dist-next}
 use Rattle.index.proofs.Pigeon.{less-or-not, same-or-not}
@@ -117,16 +117,3 @@ module _ (t keys : List ℕ) (m : ℕ) where
   pub inside-absent : (p n : ℕ) → searched t keys m ≡ Absent p n → p < 512
   unfolding placeOf
   inside-absent p n e = subst (λ (r : Found). placeOf r < 512) e ended
-
--- a member that is there ends its own search
-module _ (t keys ks : List ℕ) (h : Holds t keys ks) (k : ℕ) (i : List·Memᴰ k ks) where
-  pub found-place : getD t (placeOf (searched t keys (getD keys k 0))) 0 ≡ k
-  unfolding placeOf
-  found-place = go (searched t keys (getD keys k 0)) refl
-    where
-      go : (r : Found) → searched t keys (getD keys k 0) ≡ r → getD t (placeOf r) 0 ≡ k
-      go (At p l n) e = let w = says-at t keys ks (getD keys k 0) h p n l e in w .1 ∙ h .distinct (l .0) k (w .2) i (w .3)
-      go (Absent p n) e = absurd (says-absent t keys ks (getD keys k 0) h p n e .1 k i refl)
-
-pub place-inside : (t keys : List ℕ) (m : ℕ) → placeOf (searched t keys m) < 512
-place-inside t keys m = ended t keys m

@@ -1,6 +1,6 @@
 -- Closing the gap that a removed key place leaves. While it is closed, the table has one place, the gap, whose content no longer counts.
 -- Assumes nothing.
-use mathlib.Core.Path.{_≡_, refl, sym, _∙_, ap, subst}
+use mathlib.Core.Path.{_≡_, refl, sym, _∙_, ap}
 use mathlib.Core.List.{List, List·Memᴰ}
 use mathlib.Core.Logic.{_⊎_, inl, inr, ⊎-elim}
 use Prim.Native.Nat.{ℕ, _+_, _%_, _<_, _≤_}
@@ -11,7 +11,7 @@ use Rattle.index.specs.Table.{Holds, dist, home, without}
 use Rattle.index.proofs.Cycle.{dist-lt, dist-self, dist-inj, dist-via, dist-next, dist-join}
 use Rattle.index.proofs.Pigeon.{less-or-not, same-or-not}
 use Rattle.index.proofs.Search.{home-lt}
-use Rattle.index.proofs.Table.{held, spare}
+use Rattle.index.proofs.Table.{spare}
 use Rattle.index.proofs.Without.{without-length, without-mem, mem-without}
 
 -- where the search for what stands in the place p starts

@@ -1,12 +1,12 @@
 -- Laws of an index that holds a list of key places.
 -- Assumes nothing.
-use mathlib.Core.Path.{_≡_, refl, sym, _∙_, ap}
+use mathlib.Core.Path.{_≡_, sym, _∙_}
 use mathlib.Core.List.{List, [], List·Memᴰ, List·Memᴰ·not-nil}
 use mathlib.Core.Logic.{_⊎_, inl, inr, ⊎-elim}
-use Prim.Native.Nat.{ℕ, zero, suc, _<_, _≤_}
+use Prim.Native.Nat.{ℕ, _<_, _≤_}
 use native.Mathlib.Omega.{arith}
 use lib.ListN.{length, getD}
-use Rattle.index.specs.Table.{Holds, Vacant, dist, home, without}
+use Rattle.index.specs.Table.{Holds}
 use Rattle.index.proofs.Pigeon.{pigeon, some-or-all}
 
 module _ {t keys ks : List ℕ} (h : Holds t keys ks) where

@@ -16,7 +16,11 @@ dist a b = (b + (512 - a)) % 512
 unfoldable pub home : ℕ → ℕ
 home m = hashOf m % 512
 
--- the index t holds exactly the key places of the list ks, of members whose numbers stand in keys
+-- The index t holds exactly the key places of the list ks, of members whose numbers stand in keys. This is document 01's "the index holds
+-- exactly ..: each stands in one of its places only, the search finds it there, and no other number stands in any". `has` and `once` are
+-- "each stands in one of its places only"; `reach` and `distinct` are "the search finds it there", since the search can stop before a
+-- member's place only at an empty place or at an equal number; `only` is "no other number stands in any". `size`, `few` and `place` say
+-- that t has 512 places and ks at most 256 key places. That the search finds each there is proved as `found-there` (proofs/Laws.antt).
 pub record Holds (t keys ks : List ℕ) : Type 0 where
   pub size : length t ≡ 512
   pub few : length ks ≤ 256
@@ -49,3 +53,12 @@ unless false x xs = x ∷ xs
 unfoldable pub without : ℕ → List ℕ → List ℕ
 without k [] = []
 without k (x ∷ xs) = unless (eqb x k) x (without k xs)
+
+-- t′ is t without what stands in the place at
+abbrev pub Closed : List ℕ → List ℕ → ℕ → List ℕ → Type 0
+Closed t keys at t′ = (ks : List ℕ) → Holds t keys ks → getD t at 0 < 256 → Holds t′ keys (without (getD t at 0) ks)
+
+-- t′ is t without the member number m: where t holds it, t′ holds all others; where not, t′ is t
+pub record Removed (t keys : List ℕ) (m : ℕ) (t′ : List ℕ) : Type 0 where
+  pub gone : (ks : List ℕ) (k : ℕ) → Holds t keys ks → List·Memᴰ k ks → getD keys k 0 ≡ m → Holds t′ keys (without k ks)
+  pub same : (ks : List ℕ) → Holds t keys ks → ((k : ℕ) → List·Memᴰ k ks → getD keys k 0 ≡ m → ⊥) → t′ ≡ t

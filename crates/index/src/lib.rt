@@ -1,12 +1,12 @@
-// The index over the members: open addressing in 512 places, with no marks left by removal.
+// The index over the members (document 01, module 1): open addressing in 512 places, with no marks left by removal.
+// A place holds a key place, which is below KEYS, or EMPTY.
 ghost use mathlib.Core.Path.{_≡_};
-ghost use mathlib.Core.List.{List, [], _∷_, List·Memᴰ};
+ghost use mathlib.Core.List.{List, []};
 ghost use Prim.Native.Nat.{ℕ, _<_};
-ghost use lib.ListN.{length, getD};
-ghost use Rattle.index.specs.Table.{Holds, Vacant, dist, home, without};
-ghost use Rattle.index.specs.Search.{search as searched, placeOf};
-
-// A place of the index that holds no key place, and the number of key places.
+ghost use lib.ListN.{set};
+ghost use Rattle.index.specs.Table.{Holds, Closed, Removed, dist, home};
+ghost use Rattle.index.specs.Agree.{Decides, FoundIn, FoundKey, PlaceOk, KeyOk, Lists};
+ghost use Rattle.index.specs.Search.{search as searched};
 
 pub const KEYS: u16 = 256;
 
@@ -38,7 +38,7 @@ pub fn start(member: u64) -> usize
 }
 
 // How many steps up it is from a to b.
-pub fn steps(a: usize, b: usize) -> usize
+fn steps(a: usize, b: usize) -> usize
     requires { ⌜ (a < 512) × (b < 512) ⌝ }
     ensures { λ r. ⌜ r ≡ dist a b ⌝ }
 {
@@ -65,51 +65,136 @@ pub fn find<'a>(index: &'a [u16; 512], keys: &'a [u64; 256], member: u64) -> Fou
     Found::Absent(place, looked)
 }
 
-// The index with the key place `key` in the place `at`, the first empty one for its member.
-pub fn insert(index: [u16; 512], at: usize, key: KeyPlace) -> [u16; 512]
-    requires { ⌜ at < 512 ⌝ }
-    ensures { λ r. ⌜ ((keys ks : List ℕ) → Holds index keys ks → length ks < 256 → key .0 < 256 → (List·Memᴰ (key .0) ks → ⊥)
-        → ((j : ℕ) → List·Memᴰ j ks → getD keys j 0 ≡ getD keys (key .0) 0 → ⊥) → Vacant index (getD keys (key .0) 0) at → Holds r keys (key .0 ∷ ks)) ⌝ }
+// The key place `key` is put into the place `at`. Where that is past the end, nothing changes.
+pub fn insert(index: &mut [u16; 512], at: usize, key: KeyPlace)
+    ensures { λ _. ⌜ now (index .exit) ≡ set (now (index .entry)) at (key .0) ⌝ }
 {
-    let mut out = index;
     let k = key.0;
-    out[at] = k;
-    out
+    let places: &mut [u16] = index;
+    if at < places.len() {
+        places[at] = k;
+    }
 }
 
-// The index without what stands in the place `at`. The gap is closed: each later member whose search passes it moves down into it.
-pub fn remove(index: [u16; 512], keys: [u64; 256], at: usize) -> [u16; 512]
+// What stands in the place `at` is taken out and the gap closed: each later member whose search passes it moves down into it.
+fn close(index: &mut [u16; 512], keys: &[u64; 256], at: usize)
     requires { ⌜ at < 512 ⌝ }
-    ensures { λ r. ⌜ ((ks : List ℕ) → Holds index keys ks → getD index at 0 < 256 → Holds r keys (without (getD index at 0) ks)) ⌝ }
+    ensures { λ _. ⌜ Closed (now (index .entry)) (now (keys .entry)) at (now (index .exit)) ⌝ }
 {
-    let mut out = index;
     let mut gap = at;
     let mut next = (at + 1) % 512;
     let mut looked: usize = 1;
     while looked < 512 {
-        let key = out[next];
+        let key = index[next];
         if KEYS <= key {
-            out[gap] = EMPTY;
-            return out;
+            index[gap] = EMPTY;
+            return;
         }
         let home = start(keys[key as usize]);
         if steps(home, gap) < steps(home, next) {
-            out[gap] = key;
+            index[gap] = key;
             gap = next;
         }
         next = (next + 1) % 512;
         looked += 1;
     }
-    out
 }
 
-// The place in which the search for a member ends.
-pub fn place<'a>(index: &'a [u16; 512], keys: &'a [u64; 256], member: u64) -> usize
-    ensures { λ r. ⌜ r ≡ placeOf (searched (now (index .entry)) (now (keys .entry)) member) ⌝ }
+// A member is taken out of the index, and the gap closed. A member that is not there changes nothing.
+pub fn remove(index: &mut [u16; 512], keys: &[u64; 256], member: u64)
+    ensures { λ _. ⌜ Removed (now (index .entry)) (now (keys .entry)) member (now (index .exit)) ⌝ }
 {
     let found = find(index, keys, member);
+    let Found::At(at, _, _) = found else {
+        return;
+    };
+    close(index, keys, at);
+}
+
+// Whether a search ended in the place `at` with what it looked for.
+fn found_in(found: Found, at: usize) -> bool
+    ensures { λ r. ⌜ Decides r (FoundIn at found) ⌝ }
+{
     match found {
-        Found::At(at, _, _) => at,
-        Found::Absent(at, _) => at,
+        Found::At(place, _, _) => place == at,
+        Found::Absent(_, _) => false,
     }
+}
+
+// Whether a search found the key place `key`.
+fn found_key(found: Found, key: u16) -> bool
+    ensures { λ r. ⌜ Decides r (FoundKey key found) ⌝ }
+{
+    match found {
+        Found::At(_, k, _) => {
+            let other = k.0;
+            other == key
+        }
+        Found::Absent(_, _) => false,
+    }
+}
+
+// Whether a place is empty, or holds a key place in use whose member is found there.
+fn place_ok<'a>(
+    index: &'a [u16; 512],
+    keys: &'a [u64; 256],
+    used: &'a [bool; 256],
+    at: usize,
+) -> bool
+    requires { ⌜ at < 512 ⌝ }
+    ensures { λ r. ⌜ Decides r (PlaceOk (now (index .entry)) (now (keys .entry)) (now (used .entry)) at) ⌝ }
+{
+    let key = index[at];
+    if key == EMPTY {
+        return true;
+    }
+    if KEYS <= key {
+        return false;
+    }
+    let k = key as usize;
+    let in_use = used[k];
+    if in_use {
+        let member = keys[k];
+        found_in(find(index, keys, member), at)
+    } else {
+        false
+    }
+}
+
+// Whether a key place is not in use, or its member is found under it.
+fn key_ok<'a>(index: &'a [u16; 512], keys: &'a [u64; 256], used: &'a [bool; 256], key: u16) -> bool
+    requires { ⌜ key < 256 ⌝ }
+    ensures { λ r. ⌜ Decides r (KeyOk (now (index .entry)) (now (keys .entry)) (now (used .entry)) key) ⌝ }
+{
+    let k = key as usize;
+    let in_use = used[k];
+    if in_use {
+        let member = keys[k];
+        found_key(find(index, keys, member), key)
+    } else {
+        true
+    }
+}
+
+// Whether the index holds exactly the key places in use.
+pub fn agrees<'a>(index: &'a [u16; 512], keys: &'a [u64; 256], used: &'a [bool; 256]) -> bool
+    ensures { λ r. ⌜ ((ks : List ℕ) → Lists (now (used .entry)) ks → Decides r (Holds (now (index .entry)) (now (keys .entry)) ks)) ⌝ }
+{
+    let places: &[u16] = index;
+    let end = places.len();
+    let mut at: usize = 0;
+    while at < end {
+        if !place_ok(index, keys, used, at) {
+            return false;
+        }
+        at += 1;
+    }
+    let mut key: u16 = 0;
+    while key < KEYS {
+        if !key_ok(index, keys, used, key) {
+            return false;
+        }
+        key += 1;
+    }
+    true
 }

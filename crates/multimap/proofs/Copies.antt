@@ -41,34 +41,34 @@ pub record Copied (f : ℕ → ℕ) (xs : List ℕ) (z : ℕ) (out₀ : List ℕ
   pub here : q ≡ getD xs i z
   pub front : out ≡ written (map f xs) out₀ i
 
-module _ (n p : ℕ → ℕ) (a : ℕ) (xs : List ℕ) (z : ℕ) (path : Path n p a xs z) (f : ℕ → ℕ) (out₀ : List ℕ) (fits : length xs ≤ length out₀) where
-  pub copied-none : Copied f xs z out₀ 0 (n a) out₀
-  copied-none = record { some = omega arith; here = path-start n p a xs z path; front = refl }
+pub copied-none : (n p : ℕ → ℕ) (a : ℕ) (xs : List ℕ) (z : ℕ) → Path n p a xs z → (f : ℕ → ℕ) (out₀ : List ℕ) → Copied f xs z out₀ 0 (n a) out₀
+copied-none n p a xs z path f out₀ = record { some = omega arith; here = path-start n p a xs z path; front = refl }
 
+module _ {f : ℕ → ℕ} {xs : List ℕ} {z : ℕ} {out₀ : List ℕ} {i q : ℕ} {out : List ℕ} (t : Copied f xs z out₀ i q out) where
   many : length (map f xs) ≡ length xs
   many = length-map xs f
 
-  module _ (i q : ℕ) (out : List ℕ) (t : Copied f xs z out₀ i q out) where
-    pub copied-all : length xs ≤ i → out ≡ over (map f xs) out₀
-    copied-all e = t .front ∙ written-all (map f xs) out₀ i (omega (arith, many, t .some))
+  pub copied-all : length xs ≤ i → out ≡ over (map f xs) out₀
+  copied-all e = t .front ∙ written-all (map f xs) out₀ i (omega (arith, many, t .some))
 
+  -- the place that the walk is at
+  pub place-in : i < length xs → 0 < count q xs
+  place-in e = rw (t .here) (getD-in xs i z e)
+
+  module _ (fits : length xs ≤ length out₀) where
     pub copied-long : length out ≡ length out₀
     copied-long = ap length (t .front) ∙ written-long (map f xs) out₀ i (omega (arith, many, t .some)) (omega (arith, t .some))
 
-    module _ (e : i < length xs) where
-      pub place-in : 0 < count q xs
-      place-in = rw (t .here) (getD-in xs i z e)
+    pub slot-fits : i < length xs → i < length out
+    slot-fits e = omega (arith, copied-long)
 
-      pub slot-fits : i < length out
-      slot-fits = omega (arith, copied-long)
-
-      pub copied-one : Copied f xs z out₀ (i + 1) (n q) (set out i (f q))
-      copied-one =
-          record {
-            some = omega arith;
-            here = rw (add-one i) (ap n (t .here) ∙ path-step n p a xs z i path e);
-            front =
-                ap (λ (l : List ℕ). set l i (f q)) (t .front)
-                ∙ ap (λ (v : ℕ). set (written (map f xs) out₀ i) i v) (ap f (t .here) ∙ sym (List·getD-map f xs i z))
-                ∙ written-one (map f xs) out₀ i (f z) (omega (arith, many)) (omega arith);
-          }
+    pub copied-one : (n p : ℕ → ℕ) (a : ℕ) → Path n p a xs z → i < length xs → Copied f xs z out₀ (i + 1) (n q) (set out i (f q))
+    copied-one n p a path e =
+        record {
+          some = omega arith;
+          here = rw (add-one i) (ap n (t .here) ∙ path-step n p a xs z i path e);
+          front =
+              ap (λ (l : List ℕ). set l i (f q)) (t .front)
+              ∙ ap (λ (v : ℕ). set (written (map f xs) out₀ i) i v) (ap f (t .here) ∙ sym (List·getD-map f xs i z))
+              ∙ written-one (map f xs) out₀ i (f z) (omega (arith, many)) (omega arith);
+        }

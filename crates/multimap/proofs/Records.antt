@@ -11,11 +11,11 @@ use lib.Dec.{eqb}
 use lib.ListN.{length, length-map}
 use Rattle.steps.specs.Lists.{filter}
 use Rattle.steps.specs.State as St
-use Rattle.steps.specs.State.{Pair, of}
-use Rattle.links.specs.Path.{pick, count, keep, Path}
+use Rattle.steps.specs.State.{of}
+use Rattle.links.specs.Path.{pick, count, keep, walk, Path}
 use Rattle.links.specs.Places.{order}
 use Rattle.links.specs.Links.{recordIn}
-use Rattle.links.proofs.Paths.{same-or-not, count-same, keep-same}
+use Rattle.links.proofs.Paths.{same-or-not, count-same, keep-same, path-walk}
 use Rattle.links.proofs.Lists.{in-array}
 use Rattle.links.proofs.Chains.{record-once}
 use Rattle.index.specs.declared.KeyPlace.{KeyPlace}
@@ -48,12 +48,12 @@ map-map f g (x ∷ xs) = ap (λ (l : List _). f (g x) ∷ l) (map-map f g xs)
 
 -- ---- members
 
--- the number k stands in no member place of the list
-pub record Stranger (m : ListOrderedMultimap) (k : ℕ) : Type 0 where
+-- what is so of a number k that is no member
+pub record NoMember (m : ListOrderedMultimap) (k : ℕ) : Type 0 where
   pub absent : St.present k (stateOf m) ≡ false
   pub rounds : St.rounds k (pairs m) ≡ []
 
--- it stands in the member place x
+-- what is so of the member k in the member place x
 pub record Member (m : ListOrderedMultimap) (k x : ℕ) : Type 0 where
   pub number : at (m .keys) x ≡ k
   pub member : 0 < count x (order (membersOf m))
@@ -65,6 +65,8 @@ pub record Member (m : ListOrderedMultimap) (k x : ℕ) : Type 0 where
   pub some : 0 < at (m .length) x
   pub many : length (St.rounds k (pairs m)) ≡ at (m .length) x
   pub path : Path (valueAt (m .«next_index»)) (valueAt (m .«previous_index»)) (1024 + x) (recordIn (linksOf m) x) (1024 + x)
+  -- from the head by next, that many places
+  pub walked : walk (valueAt (m .«next_index»)) (valueAt (m .«next_index») (1024 + x)) (at (m .length) x) ≡ recordIn (linksOf m) x
 
 module _ (m : ListOrderedMultimap) (g : WellLinked m) where
   abbrev ks : List ℕ
@@ -82,8 +84,8 @@ module _ (m : ListOrderedMultimap) (g : WellLinked m) where
       (same-or-not y x)
 
   module _ (k : ℕ) where
-    pub stranger : ((j : ℕ) → List·Memᴰ j (order (membersOf m)) → at (m .keys) j ≡ k → ⊥) → Stranger m k
-    stranger new =
+    pub no-member : ((j : ℕ) → List·Memᴰ j (order (membersOf m)) → at (m .keys) j ≡ k → ⊥) → NoMember m k
+    no-member new =
         record {
           absent = any-none (at (m .keys)) k ks (λ j i. new j (count-mem j ks i));
           rounds =
@@ -110,11 +112,14 @@ module _ (m : ListOrderedMultimap) (g : WellLinked m) where
           some = omega (arith, size, g .some x i);
           many = ap length its ∙ length-map R (at (m .values)) ∙ sym size;
           path = g .chained .chain x i;
+          walked =
+              ap (walk (valueAt (m .«next_index»)) (valueAt (m .«next_index») (1024 + x))) size
+              ∙ path-walk (valueAt (m .«next_index»)) (valueAt (m .«previous_index»)) (1024 + x) R (1024 + x) (g .chained .chain x i);
         }
 
     -- by the answer of the search
-    pub not-found : (p n : ℕ) → searched (m .index) (m .keys) k ≡ Absent p n → Stranger m k
-    not-found p n e = stranger (says-absent (m .index) (m .keys) ks k (g .index) p n e .1)
+    pub not-found : (p n : ℕ) → searched (m .index) (m .keys) k ≡ Absent p n → NoMember m k
+    not-found p n e = no-member (says-absent (m .index) (m .keys) ks k (g .index) p n e .1)
 
     pub found : (p n : ℕ) (x : KeyPlace) → searched (m .index) (m .keys) k ≡ At p x n → Member m k (x .0)
     found p n x e = let w = says-at (m .index) (m .keys) ks k (g .index) p n x e in member-at (x .0) (mem-count (x .0) ks (w .2)) (w .3)

@@ -1,3 +1,25 @@
 // The calls of document 01 under one name. What every list of them comes to is in specs/Demand3.antt.
+pub use changing::adding::append;
+pub use changing::inserting::insert;
+pub use changing::inserting::insert_all;
+pub use changing::removing::pop_back;
+pub use changing::removing::pop_front;
+pub use changing::removing::remove;
+pub use changing::removing::remove_all;
+pub use changing::removing::retain;
+pub use entries::occupied_entry;
+pub use entries::vacant_entry;
 pub use multimap::ListOrderedMultimap;
 pub use multimap::new;
+pub use packing::clear;
+pub use packing::pack_to;
+pub use reading::contains_key;
+pub use reading::entry;
+pub use reading::entry_len;
+pub use reading::get;
+pub use reading::get_all;
+pub use reading::iter;
+pub use reading::keys;
+pub use reading::keys_len;
+pub use reading::taken;
+pub use reading::values_len;

@@ -74,3 +74,26 @@ module _ {Map : Type 0} (M : Kind Map) (c : Call) (m : Map) where
         same = λ r. absurd (true≢false (sym r ∙ h));
         packed = λ a b j r. absurd (not-pack c p a b j);
       }
+
+  -- a call whose step is another's
+  pub does-as : (d : Call) (o : Outcome) (m′ : Map) → packs d ≡ false → step c (M .abs m) ≡ step d (M .abs m) → Does M c m o m′ → Does M d m o m′
+  does-as d o m′ p e h =
+      record {
+        outcome = h .outcome ∙ ap (λ (r : Outcome × State). r .0) e;
+        state = h .state ∙ ap (λ (r : Outcome × State). r .1) e;
+        linked = h .linked;
+        same = h .same;
+        packed = λ a b i r. absurd (not-pack d p a b i);
+      }
+
+  -- pack_to that is not refused
+  pub does-pack : (o : Outcome) (m′ : Map) → isRefused (o .answer) ≡ false → step c (M .abs m) ≡ (o, M .abs m) → M .abs m′ ≡ M .abs m → M .Linked m′ → M .Packed m′
+      → Does M c m o m′
+  does-pack o m′ h e i l p =
+      record {
+        outcome = sym (ap (λ (r : Outcome × State). r .0) e);
+        state = i ∙ sym (ap (λ (r : Outcome × State). r .1) e);
+        linked = l;
+        same = λ r. absurd (true≢false (sym r ∙ h));
+        packed = λ a b j r. p;
+      }

@@ -1,0 +1,154 @@
+-- The steps of `insert` and `insert_all`. Assumes nothing.
+use Prim.Native.Nat.{ℕ, _+_, _≤_, _<_, min}
+use mathlib.Core.Path.{_≡_, refl, sym, ap, _∙_}
+use mathlib.Core.Bool.{true, false}
+use mathlib.Core.List.{List, [], _∷_, _++_, map}
+use borrow.Author.Tests.{lt-ltb, le-ltb}
+use lib.ListN.{length}
+use Rattle.steps.specs.State as St
+use Rattle.steps.specs.State.{State, Pair, rounds, others, add, replace, full, crowded, maxRounds, maxMembers, maxTaken}
+use Rattle.steps.specs.Call.{refused, none, round, insert, insert-all}
+use Rattle.steps.specs.Call as C
+use Rattle.steps.specs.Step.{step, checks, act, say, write, over, short, first}
+use Rattle.steps.specs.Trace.{Does}
+use Rattle.steps.proofs.Doing.{does-refuse, does-change}
+use Rattle.links.specs.Path.{walk}
+use Rattle.multimap.specs.Map.{at, valueAt, pairs, members, stateOf}
+use Rattle.multimap.specs.WellLinked.{WellLinked, linked}
+use Rattle.multimap.specs.declared.ListOrderedMultimap.{ListOrderedMultimap}
+use Rattle.multimap.proofs.States.{Known, Unknown, is-full, not-full, is-crowded, not-crowded}
+use Rattle.multimap.proofs.Stores.{mem-count}
+use Rattle.changing.specs.Adding.{Open, AddedTo, Posted}
+use Rattle.changing.specs.Strike.{Member, Emptied}
+use Rattle.changing.proofs.Records.{walked, its-rounds, how-many, first-round}
+use Rattle.changing.proofs.Removes.{same-pairs, no-rounds}
+
+-- ---- the steps, case by case
+
+module _ (k v : ℕ) (s : State) where
+  step-full : St.present k s ≡ false → full s ≡ true → step (insert k v) s ≡ (say (refused 1), s)
+  unfolding step checks
+  step-full p f = rw (p, f)
+
+  step-crowded : St.present k s ≡ false → full s ≡ false → crowded s ≡ true → step (insert k v) s ≡ (say (refused 2), s)
+  unfolding step checks
+  step-crowded p f c = rw (p, f, c)
+
+  step-known : St.present k s ≡ true → step (insert k v) s ≡ (say (first (rounds k (s .pairs))), replace k v s)
+  unfolding step checks act
+  step-known p = rw (p, p)
+
+  step-new : St.present k s ≡ false → full s ≡ false → crowded s ≡ false → step (insert k v) s ≡ (say (first (rounds k (s .pairs))), replace k v s)
+  unfolding step checks act
+  step-new p f c = rw (p, f, c, p)
+
+  module _ (out : List ℕ) where
+    step-all-full : St.present k s ≡ false → full s ≡ true → step (insert-all k v out) s ≡ (write (refused 1) out, s)
+    unfolding step checks
+    step-all-full p f = rw (p, f)
+
+    step-all-crowded : St.present k s ≡ false → full s ≡ false → crowded s ≡ true → step (insert-all k v out) s ≡ (write (refused 2) out, s)
+    unfolding step checks
+    step-all-crowded p f c = rw (p, f, c)
+
+    step-all-short : St.present k s ≡ true → short out (rounds k (s .pairs)) ≡ true → step (insert-all k v out) s ≡ (write (refused 3) out, s)
+    unfolding step checks
+    step-all-short p h = rw (p, h)
+
+    step-all-known : St.present k s ≡ true → short out (rounds k (s .pairs)) ≡ false
+        → step (insert-all k v out) s ≡ (write (C.count (length (rounds k (s .pairs)))) (over (rounds k (s .pairs)) out), replace k v s)
+    unfolding step checks act
+    step-all-known p h = rw (p, h, p)
+
+    step-all-new : St.present k s ≡ false → full s ≡ false → crowded s ≡ false
+        → step (insert-all k v out) s ≡ (write (C.count (length (rounds k (s .pairs)))) (over (rounds k (s .pairs)) out), replace k v s)
+    unfolding step checks act
+    step-all-new p f c = rw (p, f, c, p)
+
+-- ---- the map
+
+-- a member whose record was emptied is ready for a round
+pub open-emptied : (m : ListOrderedMultimap) (x : ℕ) (o : ListOrderedMultimap) → Emptied m x o → Open o x
+open-emptied m x o d = record { chained = d .chained; here = d .member; others = d .some; index = d .index; room = d .room }
+
+module _ (k v : ℕ) (m : ListOrderedMultimap) (g : WellLinked m) where
+  -- the member place x has the number k
+  module _ (x : ℕ) (u : Known m k x) where
+    pub member-known : Member m x
+    member-known = record { linked = g; inside = u .here }
+
+    rounds-of : rounds k (pairs m) ≡ rounds (at (m .keys) x) (pairs m)
+    rounds-of = ap (λ (n : ℕ). rounds n (pairs m)) (sym (u .number))
+
+    many : length (rounds k (pairs m)) ≡ at (m .length) x
+    many = ap length rounds-of ∙ how-many m x member-known
+
+    pub insert-all-short : (out : List ℕ) → length out < at (m .length) x → Does linked (insert-all k v out) m (write (refused 3) out) m
+    insert-all-short out e =
+        does-refuse linked (insert-all k v out) m 3 g
+        (step-all-short k v (stateOf m) out (u .present) (lt-ltb (length out) (length (rounds k (pairs m))) (rw many e)))
+
+    module _ (o : ListOrderedMultimap) (d : Emptied m x o) (r : ListOrderedMultimap) (a : AddedTo o x v r) where
+      number : at (o .keys) x ≡ k
+      number = ap (λ (l : List ℕ). at l x) (d .keys) ∙ u .number
+
+      left : pairs o ≡ others k (pairs m)
+      left = d .pairs ∙ ap (λ (n : ℕ). others n (pairs m)) (u .number)
+
+      state : stateOf r ≡ replace k v (stateOf m)
+      state = rw (a .pairs, a .members, a .taken, number, left, d .members, d .taken, u .present)
+
+      pub insert-known : Does linked (insert k v) m (say (round (at (o .values) (valueAt (m .«next_index») (1024 + x))))) r
+      insert-known =
+          let h : ℕ = valueAt (m .«next_index») (1024 + x) in
+          let e : first (rounds k (pairs m)) ≡ round (at (o .values) h) =
+          ap first rounds-of ∙ first-round m x member-known ∙ ap (λ (l : List ℕ). round (at l h)) (sym (d .values)) in
+          does-change linked (insert k v) m (say (round (at (o .values) h))) (replace k v (stateOf m)) r refl refl
+          (step-known k v (stateOf m) (u .present) ∙ rw e) state (a .linked)
+
+      pub insert-all-known : (out last : List ℕ) → at (m .length) x ≤ length out
+          → last ≡ over (map (at (o .values)) (walk (valueAt (m .«next_index»)) (valueAt (m .«next_index») (1024 + x)) (at (m .length) x))) out
+          → Does linked (insert-all k v out) m (write (C.count (at (m .length) x)) last) r
+      insert-all-known out last room copied =
+          let next : (ℕ → ℕ) = valueAt (m .«next_index») in
+          let fits : short out (rounds k (pairs m)) ≡ false = le-ltb (length out) (length (rounds k (pairs m))) (rw many room) in
+          let w : map (at (o .values)) (walk next (next (1024 + x)) (at (m .length) x)) ≡ rounds k (pairs m) =
+          rw (d .values, walked m x member-known) (sym (rounds-of ∙ its-rounds m x member-known)) in
+          let e : last ≡ over (rounds k (pairs m)) out = copied ∙ ap (λ (l : List ℕ). over l out) w in
+          does-change linked (insert-all k v out) m (write (C.count (at (m .length) x)) last) (replace k v (stateOf m)) r refl refl
+          (step-all-known k v (stateOf m) out (u .present) fits ∙ rw (e, many)) state (a .linked)
+
+  -- no member has it
+  module _ (p : ℕ) (u : Unknown m k p) where
+    none-yet : rounds k (pairs m) ≡ []
+    none-yet = no-rounds k m g (λ j i e. u .new j (mem-count j _ i) e)
+
+    replaced : replace k v (stateOf m) ≡ add k v (stateOf m)
+    replaced = rw (same-pairs k m g (λ j i e. u .new j (mem-count j _ i) e))
+
+    module _ (full : maxRounds ≤ m .«values_len») where
+      pub insert-full : Does linked (insert k v) m (say (refused 1)) m
+      insert-full = does-refuse linked (insert k v) m 1 g (step-full k v (stateOf m) (u .present) (is-full m full))
+
+      pub insert-all-full : (out : List ℕ) → Does linked (insert-all k v out) m (write (refused 1) out) m
+      insert-all-full out = does-refuse linked (insert-all k v out) m 1 g (step-all-full k v (stateOf m) out (u .present) (is-full m full))
+
+    module _ (room : m .«values_len» < maxRounds) where
+      module _ (many : maxMembers ≤ m .«keys_len») where
+        pub insert-crowded : Does linked (insert k v) m (say (refused 2)) m
+        insert-crowded = does-refuse linked (insert k v) m 2 g (step-crowded k v (stateOf m) (u .present) (not-full m room) (is-crowded m many))
+
+        pub insert-all-crowded : (out : List ℕ) → Does linked (insert-all k v out) m (write (refused 2) out) m
+        insert-all-crowded out =
+            does-refuse linked (insert-all k v out) m 2 g (step-all-crowded k v (stateOf m) out (u .present) (not-full m room) (is-crowded m many))
+
+      module _ (spare : m .«keys_len» < maxMembers) (r : ListOrderedMultimap) (a : Posted m k v r) where
+        pub insert-new : Does linked (insert k v) m (say none) r
+        insert-new =
+            does-change linked (insert k v) m (say none) (replace k v (stateOf m)) r refl refl
+            (step-new k v (stateOf m) (u .present) (not-full m room) (not-crowded m spare) ∙ rw none-yet) (a .state ∙ sym replaced) (a .linked)
+
+        pub insert-all-new : (out : List ℕ) → Does linked (insert-all k v out) m (write (C.count 0) out) r
+        insert-all-new out =
+            does-change linked (insert-all k v out) m (write (C.count 0) out) (replace k v (stateOf m)) r refl refl
+            (step-all-new k v (stateOf m) out (u .present) (not-full m room) (not-crowded m spare) ∙ rw none-yet) (a .state ∙ sym replaced) (a .linked)

@@ -1,0 +1,164 @@
+-- A member joins a map: what the stores of `join` make of it. Assumes nothing.
+use Prim.Native.Nat.{ℕ, _+_, _≤_, _<_}
+use mathlib.Core.Path.{_≡_, refl, sym, ap, _∙_, subst}
+use mathlib.Core.Logic.{_⊎_, inl, inr, _≢_, ⊎-elim}
+use mathlib.Core.List.{List, [], _∷_, _++_, map, List·Memᴰ, List·Memᴰ·cases-cons, List·Memᴰ·head, List·Memᴰ·tail}
+use native.Mathlib.Omega.{arith}
+use lib.Dec.{eqb}
+use lib.ListN.{length, set, length-set, length-append}
+use lib.Seq.{getD-set-same, getD-set-other}
+use Rattle.links.specs.Path.{pick, count}
+use Rattle.links.specs.Places.{Places, Linked, put, order, vacancy}
+use Rattle.links.specs.Links.{Links, Chained, recordIn, joined}
+use Rattle.links.proofs.Paths.{same-or-not, count-append, count-same, count-other}
+use Rattle.links.proofs.Lists.{length-order, vacancy-fits, first-in, last-in, at-most-root}
+use Rattle.links.proofs.Chains.{joined-order, joined-off, joined-chained}
+use Rattle.index.specs.Table.{Holds}
+use Rattle.index.proofs.Table.{reread, relist}
+use Rattle.index.proofs.Adds.{added}
+use Rattle.index.specs.declared.KeyPlace.{KeyPlace}
+use Rattle.multimap.specs.Map.{at, keyAt, valueAt, pairAt, pairs, members, roundsOf, membersOf, linksOf}
+use Rattle.multimap.specs.declared.ListOrderedMultimap.{ListOrderedMultimap}
+use Rattle.multimap.proofs.Stores.{at-set, key-set₂, value-set, Sized, places-eq, links-eq, map-same, map-append, mem-count, count-mem}
+use Rattle.changing.specs.Adding.{Open, Joins, Joined, lastKey}
+
+-- where the stores go: the first place and the last of a list, or its end
+pub ends-fit : (l : Places) → Linked l → (l .next (l .root) ≤ l .root) × (l .prev (l .root) ≤ l .root)
+ends-fit l g = (at-most-root l g (l .next (l .root)) (first-in l g), at-most-root l g (l .prev (l .root)) (last-in l g))
+
+pub members-ends : (m : ListOrderedMultimap) (k p : ℕ) → Joins m k p → (keyAt (m .«next_key») 256 ≤ 256) × (keyAt (m .«previous_key») 256 ≤ 256)
+members-ends m k p h = ends-fit (membersOf m) (h .linked .chained .members)
+
+pub new-key-fits : (m : ListOrderedMultimap) (k p key : ℕ) → Joins m k p → key ≡ vacancy (membersOf m) → key < 256
+new-key-fits m k p key h is = rw is (vacancy-fits (membersOf m) (h .linked .chained .members) (h .spare))
+
+module _ (m : ListOrderedMultimap) (k p : ℕ) (h : Joins m k p) (s : Sized m) (key fresh free : ℕ)
+    (is : key ≡ vacancy (membersOf m))
+    (f : fresh ≡ pick (eqb (m .«keys_len») (m .«keys_fresh»)) (m .«keys_fresh» + 1) (m .«keys_fresh»))
+    (u : free ≡ pick (eqb (m .«keys_len») (m .«keys_fresh»)) (m .«keys_free» .0) (keyAt (m .«next_key») key)) where
+  abbrev ks : List ℕ
+  ks = order (membersOf m)
+
+  abbrev last : ℕ
+  last = lastKey m
+
+  -- the map with the stores
+  abbrev r : ListOrderedMultimap
+  r =
+      record {
+        keys = set (m .keys) key k;
+        length = set (m .length) key 0;
+        «next_key» = set (set (m .«next_key») last (record { 0 = key })) key (record { 0 = 256 });
+        «previous_key» = set (set (m .«previous_key») key (record { 0 = last })) 256 (record { 0 = key });
+        values = m .values;
+        «key_index» = m .«key_index»;
+        «next_value» = m .«next_value»;
+        «previous_value» = m .«previous_value»;
+        «next_index» = set (m .«next_index») (1024 + key) (record { 0 = 1024 + key });
+        «previous_index» = set (m .«previous_index») (1024 + key) (record { 0 = 1024 + key });
+        index = set (m .index) p key;
+        «keys_len» = m .«keys_len» + 1;
+        «keys_fresh» = fresh;
+        «keys_free» = record { 0 = free };
+        «values_len» = m .«values_len»;
+        «values_fresh» = m .«values_fresh»;
+        «values_free» = m .«values_free»;
+        taken = m .taken;
+      }
+
+  fits : key < 256
+  fits = new-key-fits m k p key h is
+
+  off : (j : ℕ) → 0 < count j ks → j ≢ key
+  off j i e = joined-off (linksOf m) (h .linked .chained) (h .spare) j i (e ∙ is)
+
+  links : linksOf r ≡ joined (linksOf m)
+  links =
+      subst (λ (y : ℕ). linksOf r ≡ record {
+        rounds = roundsOf m;
+        members = record {
+          next = put (put (keyAt (m .«next_key»)) last y) y 256;
+          prev = put (put (keyAt (m .«previous_key»)) y last) 256 y;
+          root = 256;
+          len = m .«keys_len» + 1;
+          fresh = pick (eqb (m .«keys_len») (m .«keys_fresh»)) (m .«keys_fresh» + 1) (m .«keys_fresh»);
+          free = pick (eqb (m .«keys_len») (m .«keys_fresh»)) (m .«keys_free» .0) (keyAt (m .«next_key») y);
+        };
+        key = keyAt (m .«key_index»);
+        next = put (valueAt (m .«next_index»)) (1024 + y) (1024 + y);
+        prev = put (valueAt (m .«previous_index»)) (1024 + y) (1024 + y);
+        size = put (at (m .length)) y 0;
+      }) is
+      (links-eq (linksOf r) _ refl
+      (places-eq (membersOf r) _
+      (key-set₂ (m .«next_key») last (record { 0 = key }) key (record { 0 = 256 }) 257 (s .next-key) (omega (arith, members-ends m k p h)) (omega (arith, fits)))
+      (key-set₂ (m .«previous_key») key (record { 0 = last }) 256 (record { 0 = key }) 257 (s .previous-key) (omega (arith, fits)) (omega arith))
+      refl refl f u)
+      refl
+      (value-set (m .«next_index») (1024 + key) (record { 0 = 1024 + key }) (rw (s .next-index) (omega (arith, fits))))
+      (value-set (m .«previous_index») (1024 + key) (record { 0 = 1024 + key }) (rw (s .previous-index) (omega (arith, fits))))
+      (at-set (m .length) key 0 (rw (s .lengths) fits)))
+
+  joiners : order (membersOf r) ≡ ks ++ (key ∷ [])
+  joiners =
+      ap (λ (c : Links). order (c .members)) links ∙ joined-order (linksOf m) (h .linked .chained) (h .spare)
+      ∙ ap (λ (y : ℕ). ks ++ (y ∷ [])) (sym is)
+
+  old-or-new : (j : ℕ) → 0 < count j (order (membersOf r)) → (j ≡ key) ⊎ (0 < count j ks)
+  old-or-new j i =
+      ⊎-elim (λ e. inl e) (λ e. inr (omega (arith, ap (count j) joiners, count-append j ks (key ∷ []), count-other j key [] e))) (same-or-not j key)
+
+  here : 0 < count key (order (membersOf r))
+  here = omega (arith, ap (count key) joiners, count-append key ks (key ∷ []), count-same key [])
+
+  number : at (r .keys) key ≡ k
+  number = getD-set-same (m .keys) key k 0 (rw (s .keys) fits)
+
+  number-old : (j : ℕ) → 0 < count j ks → at (r .keys) j ≡ at (m .keys) j
+  number-old j i = getD-set-other (m .keys) key j k 0 (off j i)
+
+  holds : Holds (r .index) (r .keys) (order (membersOf r))
+  holds =
+      let to : (j : ℕ) → List·Memᴰ j (key ∷ ks) → List·Memᴰ j (order (membersOf r)) =
+      λ j i. count-mem j (order (membersOf r))
+      (⊎-elim (λ (e : j ≡ key). rw e here)
+      (λ (i′ : List·Memᴰ j ks). omega (arith, ap (count j) joiners, count-append j ks (key ∷ []), mem-count j ks i′)) (List·Memᴰ·cases-cons i)) in
+      let back : (j : ℕ) → List·Memᴰ j (order (membersOf r)) → List·Memᴰ j (key ∷ ks) =
+      λ j i. ⊎-elim (λ e. List·Memᴰ·head e) (λ i′. List·Memᴰ·tail (count-mem j ks i′)) (old-or-new j (mem-count j (order (membersOf r)) i)) in
+      let kept : Holds (m .index) (r .keys) ks = reread (λ j i. sym (number-old j (mem-count j ks i))) (h .linked .index) in
+      let long : length ks < 256 = rw (length-order (membersOf m)) (h .spare) in
+      let apart : (j : ℕ) → List·Memᴰ j ks → at (r .keys) j ≡ at (r .keys) key → ⊥ =
+      λ j i e. h .new j (mem-count j ks i) (sym (number-old j (mem-count j ks i)) ∙ e ∙ number) in
+      relist (rw (joiners, length-append) (omega (arith, long))) to back
+      (added (m .index) (r .keys) ks p key kept long fits (λ i. off key (mem-count key ks i) refl) apart (rw number (h .vacant)))
+
+  ready : Open r key
+  ready =
+      record {
+        chained = subst Chained (sym links) (joined-chained (linksOf m) (h .linked .chained) (h .spare));
+        here = here;
+        others =
+            λ j i n.
+            ⊎-elim (λ e. absurd (n e)) (λ i′. rw (ap (λ (c : Links). recordIn c j) links) (h .linked .some j i′)) (old-or-new j i);
+        index = holds;
+        room = h .room;
+      }
+
+  last-now : lastKey r ≡ key
+  last-now =
+      ap (λ (y : KeyPlace). y .0)
+      (getD-set-same (set (m .«previous_key») key (record { 0 = last })) 256 (record { 0 = key }) (record { 0 = 0 }) (rw (length-set, s .previous-key) (omega arith)))
+
+  pub joins : Joined m k r
+  joins =
+      record {
+        ready = rw last-now ready;
+        number = rw last-now number;
+        pairs =
+            map-same (pairAt r) (pairAt m) (order (roundsOf m))
+            (λ q i. ap (λ (y : ℕ). record { key = y; value = at (m .values) q }) (number-old (keyAt (m .«key_index») q) (h .linked .chained .keys q i)));
+        members =
+            ap (map (at (r .keys))) joiners ∙ map-append (at (r .keys)) ks (key ∷ [])
+            ∙ rw (map-same (at (r .keys)) (at (m .keys)) ks number-old, number);
+        taken = refl;
+      }

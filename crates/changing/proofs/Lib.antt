@@ -1,0 +1,13 @@
+pub mod Joins
+pub mod Adds
+pub mod Posts
+pub mod Lists
+pub mod Turns
+pub mod Sweeps
+pub mod Copies
+pub mod Settle
+pub mod Records
+pub mod Removes
+pub mod Pops
+pub mod Retains
+pub mod Inserts

@@ -1,0 +1,258 @@
+-- One round is struck, at an end for the pops. Assumes nothing.
+use Prim.Native.Nat.{ℕ, suc, _-_, _<_}
+use mathlib.Core.Path.{_≡_, refl, sym, ap, _∙_, subst, fun-ext}
+use mathlib.Core.Logic.{_≢_, ⊎-elim}
+use mathlib.Core.Bool.{Bool, true, false, cond, not, _&&_, _||_}
+use mathlib.Core.List.{List, [], _∷_, _++_, map, append-nil, dropLast}
+use mathlib.Core.Option.{some}
+use native.Mathlib.Omega.{arith}
+use borrow.Author.Tests.{eq-eqb, ne-eqb, eqb-true}
+use lib.Dec.{eqb}
+use lib.ListN.{length}
+use Rattle.steps.specs.Lists.{filter, last?}
+use Rattle.steps.specs.State.{State, Pair, has, of, leave, remove-pair, keep as keeping}
+use Rattle.steps.specs.Call.{Call, popped, none, pop-front, pop-back}
+use Rattle.steps.specs.Step.{step, checks, act, say}
+use Rattle.steps.specs.Trace.{Does}
+use Rattle.steps.proofs.Doing.{packs, does-stay, does-change}
+use Rattle.steps.proofs.Filter.{any-append}
+use Rattle.links.specs.Path.{count, keep, without, walk}
+use Rattle.links.specs.Places.{order}
+use Rattle.links.specs.Links.{recordIn, recordOf}
+use Rattle.links.proofs.Paths.{same-or-not, keep-all, keep-inside, count-same, count-append, Split, split-at, without-split, path-end}
+use Rattle.links.proofs.Lists.{in-array, order-once, length-order}
+use Rattle.multimap.specs.Map.{at, keyAt, valueAt, pairAt, pairs, members, roundsOf, membersOf, linksOf, stateOf}
+use Rattle.multimap.specs.WellLinked.{WellLinked, linked}
+use Rattle.multimap.specs.declared.ListOrderedMultimap.{ListOrderedMultimap}
+use Rattle.multimap.proofs.Stores.{length-pairs, map-append}
+use Rattle.changing.specs.Strike.{strip, Stretch, Struck, Round}
+use Rattle.changing.specs.Sweep.{idle, Sweepable, Swept}
+use Rattle.changing.specs.RemovingAnswer.{poppedOf, rest, PoppedAt}
+use Rattle.changing.specs.declared.removing.Popped.{Popped}
+use Rattle.changing.specs.declared.removing.Popped.the-variants as P
+use Rattle.changing.proofs.Lists.{filter-fuse}
+use Rattle.changing.proofs.Settle.{has-size, still, size-o, struck-sound, settled-well, settled-state, all-have, cover-one}
+
+-- ---- the state
+
+-- the pair p leaves P, and ps are the others: keeping these is what the step does
+off : (s : State) (p : Pair) (ps : List Pair) → filter (λ j. has j (s .pairs)) (s .members) ≡ s .members → ((j : ℕ) → has j (s .pairs) ≡ (of j p || has j ps)) → keeping ps s ≡ remove-pair p ps s
+off s p ps all h = ap (λ (l : List ℕ). record { pairs = ps; members = l; taken = s .taken }) (go (has (p .key) ps) refl)
+  where
+    others : (j : ℕ) → eqb j (p .key) ≡ false → has j ps ≡ has j (s .pairs)
+    others j e = sym (h j ∙ ap (λ (b : Bool). b || has j ps) e)
+
+    stays : has (p .key) ps ≡ true → (j : ℕ) → has j ps ≡ has j (s .pairs)
+    stays e j = at-j (eqb j (p .key)) refl
+      where
+        at-j : (b : Bool) → eqb j (p .key) ≡ b → has j ps ≡ has j (s .pairs)
+        at-j true u = ap (λ (y : ℕ). has y ps) (eqb-true j (p .key) u) ∙ e ∙ sym (h j ∙ ap (λ (b : Bool). b || has j ps) u)
+        at-j false u = others j u
+
+    goes : has (p .key) ps ≡ false → (j : ℕ) → has j ps ≡ (not (eqb (p .key) j) && has j (s .pairs))
+    goes e j =
+        ⊎-elim (λ (u : j ≡ p .key). ap (λ (y : ℕ). has y ps) u ∙ e ∙ sym (ap (λ (b : Bool). not b && has j (s .pairs)) (eq-eqb (p .key) j (sym u))))
+        (λ (u : j ≢ p .key). others j (ne-eqb j (p .key) u) ∙ sym (ap (λ (b : Bool). not b && has j (s .pairs)) (ne-eqb (p .key) j (λ v. u (sym v))))) (same-or-not j (p .key))
+
+    go : (b : Bool) → has (p .key) ps ≡ b → filter (λ j. has j ps) (s .members) ≡ cond b (s .members) (leave (p .key) (s .members))
+    go true e = ap (λ (f : ℕ → Bool). filter f (s .members)) (fun-ext (stays e)) ∙ all
+    go false e =
+        ap (λ (f : ℕ → Bool). filter f (s .members)) (fun-ext (goes e))
+        ∙ filter-fuse (λ j. not (eqb (p .key) j)) (λ j. has j (s .pairs)) (s .members) ∙ ap (leave (p .key)) all
+
+-- ---- the round in the place x leaves
+
+not-not : (b : Bool) → not (not b) ≡ b
+not-not true = refl
+not-not false = refl
+
+or-swap : (a b c : Bool) → (a || (b || c)) ≡ (b || (a || c))
+or-swap true true c = refl
+or-swap true false c = refl
+or-swap false b c = refl
+
+module _ (m : ListOrderedMultimap) (x : ℕ) (h : Round m x) where
+  abbrev g : WellLinked m
+  g = h .linked
+
+  abbrev vs : List ℕ
+  vs = order (roundsOf m)
+
+  abbrev key : ℕ → ℕ
+  key = keyAt (m .«key_index»)
+
+  pub place-fits : x < 1024
+  place-fits = in-array (roundsOf m) (g .chained .rounds) x (h .inside)
+
+  pub round-stretch : Stretch false m x 1
+  round-stretch =
+      let p : Split x vs = split-at x vs (h .inside) in
+      record { chained = g .chained; front = p .front; back = p .back; whole = p .whole }
+
+  -- its pair and the others
+  others-have : (j : ℕ) → has j (pairs m) ≡ (of j (pairAt m x) || has j (rest m x))
+  others-have j =
+      let p : Split x vs = split-at x vs (h .inside) in
+      let f : ℕ → Pair = pairAt m in
+      let w : without x vs ≡ p .front ++ p .back =
+      ap (without x) (p .whole) ∙ without-split x (p .front) (p .back) (λ q. omega (arith, order-once (roundsOf m) (g .chained .rounds) q, ap (count q) (p .whole))) in
+      ap (λ (l : List ℕ). has j (map f l)) (p .whole) ∙ ap (has j) (map-append f (p .front) (x ∷ p .back)) ∙ any-append (of j) (map f (p .front)) (map f (x ∷ p .back))
+      ∙ or-swap (has j (map f (p .front))) (of j (f x)) (has j (map f (p .back)))
+      ∙ ap (λ (b : Bool). of j (f x) || b)
+      (sym (ap (λ (l : List ℕ). has j (map f l)) w ∙ ap (has j) (map-append f (p .front) (p .back)) ∙ any-append (of j) (map f (p .front)) (map f (p .back))))
+
+  module _ (o : ListOrderedMultimap) (s : Struck m (x ∷ []) o) where
+    -- the place of its member
+    abbrev K : ℕ
+    K = keyAt (o .«key_index») x
+
+    K-in : 0 < count K (order (membersOf m))
+    K-in = rw (s .kept .key-index) (g .chained .keys x (h .inside))
+
+    pub key-fits : keyAt (o .«key_index») x < 256
+    key-fits = in-array (membersOf m) (g .chained .members) K K-in
+
+    pub sweepable : Sweepable o (keyAt (o .«key_index») x) 1
+    sweepable =
+        let p : Split K (order (membersOf o)) = split-at K (order (membersOf o)) (rw (ap order (s .kept .members)) K-in) in
+        record { sound = struck-sound m g (x ∷ []) o s; front = p .front; back = p .back; whole = p .whole }
+
+    -- the other members keep their rounds
+    others : (j : ℕ) → 0 < count j (order (membersOf o)) → j ≢ K → at (o .length) j ≢ 0
+    others j i n e =
+        let i′ : 0 < count j (order (membersOf m)) = rw (ap order (s .kept .members)) at i in
+        let k : K ≡ key x = ap (λ (l : List _). keyAt l x) (s .kept .key-index) in
+        let a : recordOf key j (order (roundsOf o)) ≡ recordIn (linksOf m) j =
+        ap (recordOf key j) (s .left)
+        ∙ keep-inside (λ q. eqb (key q) j) (λ q. not (eqb q x)) vs (λ q u. ap not (ne-eqb q x (λ v. n (sym (eqb-true (key q) j u) ∙ ap key v ∙ sym k)))) in
+        omega (arith, g .some j i′, ap length a, size-o m g (x ∷ []) o s j i′, e)
+
+    gone : eqb (at (o .length) K) 0 ≡ not (has (pairAt m x .key) (rest m x))
+    gone =
+        let z : has (at (m .keys) K) (map (pairAt m) (order (roundsOf o))) ≡ not (eqb (at (o .length) K) 0) =
+        has-size m g K K-in (order (roundsOf o)) (still m g (x ∷ []) o s) ∙ ap (λ (n : ℕ). not (eqb n 0)) (sym (size-o m g (x ∷ []) o s K K-in)) in
+        sym (not-not (eqb (at (o .length) K) 0))
+        ∙ ap not (sym z ∙ ap (λ (l : List _). has (at (m .keys) (keyAt l x)) (map (pairAt m) (order (roundsOf o)))) (s .kept .key-index) ∙ ap (λ (l : List ℕ). has (pairAt m x .key) (map (pairAt m) l)) (s .left))
+
+    -- whichever members have left, so that those with a round are there
+    module _ (us : List ℕ) (r : ListOrderedMultimap) (w : Swept o us r) (cover : strip us (order (membersOf o)) ≡ keep (λ j. not (eqb (at (o .length) j) 0)) (order (membersOf o))) where
+      taken-out : (b : Bool) → eqb (at (o .length) K) 0 ≡ b → PoppedAt m x (P.Pair (at (o .keys) K) (at (o .values) x) b) r
+      taken-out b e =
+          record {
+            answer = rw (s .kept .keys, s .kept .values, ap (λ (l : List _). keyAt l x) (s .kept .key-index), ← gone, e);
+            state =
+                settled-state m g (x ∷ []) o s us r w cover ∙ ap (λ (l : List ℕ). keeping (map (pairAt m) l) (stateOf m)) (s .left)
+                ∙ off (stateOf m) (pairAt m x) (rest m x) (all-have m g) others-have;
+            linked = settled-well m g (x ∷ []) o s us r w cover;
+          }
+
+    -- it was the member's last round
+    pub popped-last : at (o .length) (keyAt (o .«key_index») x) ≡ 0 → (r : ListOrderedMultimap) → Swept o (idle o (keyAt (o .«key_index») x) 1) r
+        → PoppedAt m x (P.Pair (at (o .keys) (keyAt (o .«key_index») x)) (at (o .values) x) true) r
+    popped-last e r w = taken-out (idle o K 1) r w (cover-one (at (o .length)) K (order (membersOf o)) others) true (eq-eqb (at (o .length) K) 0 e)
+
+    -- it was not: nobody leaves
+    pub popped-one : at (o .length) (keyAt (o .«key_index») x) ≢ 0 → PoppedAt m x (P.Pair (at (o .keys) (keyAt (o .«key_index») x)) (at (o .values) x) false) o
+    popped-one e =
+        let stays : Swept o [] o =
+        record {
+          sound = struck-sound m g (x ∷ []) o s;
+          left = refl;
+          kept = record { keys = refl; values = refl; key-index = refl; rounds = refl; next-index = refl; previous-index = refl; lengths = refl; taken = refl };
+        } in
+        let all : (j : ℕ) → 0 < count j (order (membersOf o)) → at (o .length) j ≢ 0 =
+        λ j i. ⊎-elim (λ (u : j ≡ K). λ z. e (ap (at (o .length)) (sym u) ∙ z)) (others j i) (same-or-not j K) in
+        taken-out [] o stays (sym (keep-all (λ j. not (eqb (at (o .length) j) 0)) (order (membersOf o)) (λ j i. ap not (ne-eqb (at (o .length) j) 0 (all j i))))) false (ne-eqb (at (o .length) K) 0 e)
+
+-- ---- the steps
+
+step-front : (s : State) (p : Pair) (ps : List Pair) → s .pairs ≡ p ∷ ps → step pop-front s ≡ (say (popped (p .key) (p .value) (not (has (p .key) ps))), remove-pair p ps s)
+unfolding step checks act
+step-front s p ps e = rw e
+
+last-is : (ps : List Pair) (p : Pair) → last? (ps ++ p ∷ []) ≡ some p
+last-is [] p = refl
+last-is (q ∷ []) p = refl
+last-is (q ∷ r ∷ ps) p = last-is (r ∷ ps) p
+
+without-last : (ps : List Pair) (p : Pair) → dropLast (ps ++ p ∷ []) ≡ ps
+without-last [] p = refl
+without-last (q ∷ []) p = refl
+without-last (q ∷ r ∷ ps) p = ap (λ (l : List Pair). q ∷ l) (without-last (r ∷ ps) p)
+
+step-back : (s : State) (p : Pair) (ps : List Pair) → s .pairs ≡ ps ++ p ∷ [] → step pop-back s ≡ (say (popped (p .key) (p .value) (not (has (p .key) ps))), remove-pair p ps s)
+unfolding step checks act
+step-back s p ps e = rw (e, last-is ps p, without-last ps p)
+
+step-front-none : (s : State) → s .pairs ≡ [] → step pop-front s ≡ (say none, s)
+unfolding step checks act
+step-front-none s e = rw e
+
+step-back-none : (s : State) → s .pairs ≡ [] → step pop-back s ≡ (say none, s)
+unfolding step checks act
+step-back-none s e = rw e
+
+-- ---- the calls
+
+module _ (m : ListOrderedMultimap) (g : WellLinked m) where
+  no-pairs : m .«values_len» ≡ 0 → pairs m ≡ []
+  no-pairs e = go (pairs m) (length-pairs m ∙ e)
+    where
+      go : (l : List Pair) → length l ≡ 0 → l ≡ []
+      go [] u = refl
+      go (p ∷ l) u = absurd (omega arith)
+
+  pub front-none : m .«values_len» ≡ 0 → Does linked pop-front m (say none) m
+  front-none e = does-stay linked pop-front m (say none) refl g (step-front-none (stateOf m) (no-pairs e))
+
+  pub back-none : m .«values_len» ≡ 0 → Does linked pop-back m (say none) m
+  back-none e = does-stay linked pop-back m (say none) refl g (step-back-none (stateOf m) (no-pairs e))
+
+  -- the place x, where the call's step takes its pair
+  popped-so : (c : Call) → packs c ≡ false → (x : ℕ) → step c (stateOf m) ≡ (say (popped (pairAt m x .key) (pairAt m x .value) (not (has (pairAt m x .key) (rest m x)))), remove-pair (pairAt m x) (rest m x) (stateOf m))
+      → (a : Popped) (r : ListOrderedMultimap) → PoppedAt m x a r → Does linked c m (say (poppedOf a)) r
+  popped-so c k x e a r p =
+      subst (λ y. Does linked c m (say y) r) (sym (p .answer))
+      (does-change linked c m _ (remove-pair (pairAt m x) (rest m x) (stateOf m)) r k refl e (p .state) (p .linked))
+
+  module _ (some : m .«values_len» ≢ 0) where
+    abbrev ws : List ℕ
+    ws = order (roundsOf m)
+
+    once : (xs ys : List ℕ) (x : ℕ) → order (roundsOf m) ≡ xs ++ x ∷ ys → without x ws ≡ xs ++ ys
+    once xs ys x e = ap (without x) e ∙ without-split x xs ys (λ q. omega (arith, order-once (roundsOf m) (g .chained .rounds) q, ap (count q) e))
+
+    inside : (xs ys : List ℕ) (x : ℕ) → order (roundsOf m) ≡ xs ++ x ∷ ys → Round m x
+    inside xs ys x e = record { linked = g; inside = omega (arith, ap (count x) e, count-append x xs (x ∷ ys), count-same x ys) }
+
+    -- the first
+    abbrev x : ℕ
+    x = valueAt (m .«next_value») 1024
+
+    abbrev ys : List ℕ
+    ys = walk (valueAt (m .«next_value»)) (valueAt (m .«next_value») x) (m .«values_len» - 1)
+
+    front : ws ≡ x ∷ ys
+    front = let e : m .«values_len» ≡ suc (m .«values_len» - 1) = omega arith in ap (walk (valueAt (m .«next_value»)) x) e
+
+    pub front-round : Round m (valueAt (m .«next_value») 1024)
+    front-round = inside [] ys x front
+
+    pub front-popped : (a : Popped) (r : ListOrderedMultimap) → PoppedAt m (valueAt (m .«next_value») 1024) a r → Does linked pop-front m (say (poppedOf a)) r
+    front-popped = popped-so pop-front refl x (step-front (stateOf m) (pairAt m x) (rest m x) (ap (map (pairAt m)) (front ∙ ap (λ (l : List ℕ). x ∷ l) (sym (once [] ys x front)))))
+
+    -- the last
+    abbrev z : ℕ
+    z = valueAt (m .«previous_value») 1024
+
+    back : (xs : List ℕ) × (ws ≡ xs ++ z ∷ [])
+    back = path-end (valueAt (m .«next_value»)) (valueAt (m .«previous_value»)) 1024 ws 1024 (g .chained .rounds .path) (omega (arith, length-order (roundsOf m)))
+
+    pub back-round : Round m (valueAt (m .«previous_value») 1024)
+    back-round = inside (back .0) [] z (back .1)
+
+    pub back-popped : (a : Popped) (r : ListOrderedMultimap) → PoppedAt m (valueAt (m .«previous_value») 1024) a r → Does linked pop-back m (say (poppedOf a)) r
+    back-popped =
+        popped-so pop-back refl z
+        (step-back (stateOf m) (pairAt m z) (rest m z)
+        (ap (map (pairAt m)) (back .1 ∙ ap (λ (l : List ℕ). l ++ z ∷ []) (sym (once (back .0) [] z (back .1) ∙ append-nil (back .0)))) ∙ map-append (pairAt m) (without z ws) (z ∷ [])))

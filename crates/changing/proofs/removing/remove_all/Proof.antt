@@ -1,0 +1,119 @@
+-- `changing::removing::remove_all` meets its contract, by the laws of proofs/Records.antt and proofs/Removes.antt. Assumes nothing.
+use Prim.Native.Nat.{ℕ, _<_}
+use mathlib.Core.Path.{_≡_, sym, _∙_}
+use native.Mathlib.Omega.{arith}
+use borrow.Author.Needs.{needs}
+use Rattle.multimap.specs.Map.{at}
+use Rattle.changing.specs.Strike.{Member}
+use Rattle.changing.proofs.Records.{key-fits}
+use Rattle.changing.proofs.Removes.{found, found-none, removed-all-none, removed-all-short, copies, removed-all}
+use Rattle.changing.proofs.removing.remove_all.Statement.{statement}
+use Rattle.changing.proofs.removing.remove_all.Tie as tie
+use Rattle.changing.proofs.removing.remove_all.Reads as reads
+use Rattle.changing.proofs.removing.remove_all.Lts as lts
+use Rattle.changing.proofs.copy_record.Reads as copy-record-reads
+use Rattle.changing.proofs.remove_record.Reads as remove-record-reads
+use Rattle.index.proofs.find.Reads as find-reads
+
+abbrev entry : tie.After-find → tie.Start
+entry c = c .before .before .before .before .before .before
+
+-- the member place that was found
+module _ (c : tie.After-known-told) where
+  abbrev s : tie.Start
+  s = entry (c .before .before .before)
+
+  abbrev x : ℕ
+  x = c .before .found .given .0 .1 .0 .0
+
+  member : Member (s .args .m) x × (at (s .args .m .keys) x ≡ s .args .k)
+  member = found (s .args .k) (s .args .m) (s .pre) _ _ _ (sym (c .before .before .before .find .ensures) ∙ c .before .found .given .1)
+
+  fits : x < 256
+  fits = key-fits (s .args .m) x (member .0)
+
+find-requires : tie.Need-find-requires
+find-requires c κs = search needs
+
+enum-known-found : tie.Need-enum-known-found
+enum-known-found c = search needs
+
+enum-told : tie.Need-enum-told
+enum-told c = search needs
+
+returns : tie.Need-returns
+returns c =
+    let s = entry (c .before .before) in
+    removed-all-none (s .args .k) (s .args .m) (s .pre) (found-none (s .args .k) (s .args .m) (s .pre) _ _ (sym (c .before .before .find .ensures) ∙ c .enum-told .given .1)) (s .args .out .now)
+
+cast-n : tie.Need-cast-n
+cast-n c = search needs
+
+mul-n : tie.Need-mul-n
+mul-n c = search needs
+
+array-read-n : tie.Need-array-read-n
+array-read-n c = fits (c .before)
+
+cast-count : tie.Need-cast-count
+cast-count c = search needs
+
+returns-2 : tie.Need-returns-2
+returns-2 c =
+    let f = c .before .before in
+    removed-all-short (s f .args .k) (s f .args .m) (s f .pre) (x f) (member f .0) (member f .1) (s f .args .out .now) (c .if1 .taken)
+
+add-root : tie.Need-add-root
+add-root c = record { fits = omega (arith, fits (c .before .before .before)) }
+
+cast-head : tie.Need-cast-head
+cast-head c = search needs
+
+mul-head : tie.Need-mul-head
+mul-head c = search needs
+
+array-copy-out-head : tie.Need-array-copy-out-head
+array-copy-out-head c = omega (arith, fits (c .before .before .before))
+
+remove-record-requires : tie.Need-remove-record-requires
+remove-record-requires c κs = member (c .before .before .before .before) .0
+
+copy-record-requires : tie.Need-copy-record-requires
+copy-record-requires c κs =
+    let e = c .before .before .before .before .before .before in
+    let f = e .before .before in
+    copies (s f .args .k) (s f .args .m) (s f .pre) (x f) (member f .0) (member f .1) (s f .args .out .now) (e .if1 .left)
+
+same-length : tie.Need-same-length
+same-length c = search needs
+
+returns-3 : tie.Need-returns-3
+returns-3 c =
+    let w = c .before .before in
+    let r = w .before .before .before .before in
+    let e = r .before .before .before in
+    let f = e .before .before in
+    removed-all (s f .args .k) (s f .args .m) (s f .pre) (x f) (member f .0) (member f .1) (r .remove-record .result) (r .remove-record .ensures) (s f .args .out .now) _ (e .if1 .left)
+    (w .copy-record .ensures)
+
+pub remove-all-spec : {M : Type 1} → statement M
+remove-all-spec =
+    tie.close
+    (tie.spec
+    find-requires
+    enum-known-found
+    enum-told
+    returns
+    cast-n
+    mul-n
+    array-read-n
+    cast-count
+    returns-2
+    add-root
+    cast-head
+    mul-head
+    array-copy-out-head
+    remove-record-requires
+    copy-record-requires
+    same-length
+    returns-3)

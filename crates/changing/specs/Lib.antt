@@ -1,0 +1,7 @@
+pub mod Adding
+pub mod AddingAnswer
+pub mod Strike
+pub mod Sweep
+pub mod Copy
+pub mod RemovingAnswer
+pub mod InsertingAnswer

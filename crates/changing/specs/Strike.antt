@@ -1,0 +1,86 @@
+-- Rounds that are struck, by a walk along the list of rounds or along a record.
+use Prim.Native.Nat.{ℕ, _<_}
+use mathlib.Core.Path.{_≡_}
+use mathlib.Core.Bool.{Bool, true, false}
+use mathlib.Core.Logic.{_≢_}
+use mathlib.Core.List.{List, [], _∷_, _++_}
+use lib.Dec.{eqb}
+use lib.ListN.{length}
+use Rattle.steps.specs.State.{others, maxRounds}
+use Rattle.links.specs.Path.{pick, count, without, walk}
+use Rattle.links.specs.Places.{order}
+use Rattle.links.specs.Links.{Links, recordIn, Chained}
+use Rattle.index.specs.Table.{Holds}
+use Rattle.multimap.specs.Map.{at, keyAt, pairs, members, roundsOf, membersOf, linksOf}
+use Rattle.multimap.specs.WellLinked.{WellLinked}
+use Rattle.multimap.specs.declared.ListOrderedMultimap.{ListOrderedMultimap}
+
+-- the places that are walked through: the record of the member place k, or all rounds; and the way from one to the next
+abbrev pub course : Bool → Links → ℕ → List ℕ
+course true c k = recordIn c k
+course false c k = order (c .rounds)
+
+abbrev pub onward : Bool → Links → ℕ → ℕ
+onward true c = c .next
+onward false c = c .rounds .next
+
+-- so many places from `start` on
+abbrev pub visited : Bool → ListOrderedMultimap → ℕ → ℕ → List ℕ
+visited b m start turns = walk (onward b (linksOf m)) start turns
+
+-- those whose mark is 0, or that have none
+abbrev pub chosen : List ℕ → List ℕ → List ℕ
+chosen bs [] = []
+chosen [] (v ∷ vs) = v ∷ chosen [] vs
+chosen (b ∷ bs) (v ∷ vs) = pick (eqb b 0) (v ∷ chosen bs vs) (chosen bs vs)
+
+-- a list without some places
+abbrev pub strip : List ℕ → List ℕ → List ℕ
+strip [] vs = vs
+strip (w ∷ ws) vs = strip ws (without w vs)
+
+-- the places visited are a stretch of the course
+pub record Stretch (b : Bool) (m : ListOrderedMultimap) (start turns : ℕ) : Type 0 where
+  pub chained : Chained (linksOf m)
+  pub front : List ℕ
+  pub back : List ℕ
+  pub whole : course b (linksOf m) (keyAt (m .«key_index») start) ≡ front ++ (visited b m start turns ++ back)
+
+-- r is m, but for the list of rounds, the chains and the lengths
+pub record RoundsOnly (m r : ListOrderedMultimap) : Type 0 where
+  pub keys : r .keys ≡ m .keys
+  pub values : r .values ≡ m .values
+  pub key-index : r .«key_index» ≡ m .«key_index»
+  pub index : r .index ≡ m .index
+  pub members : membersOf r ≡ membersOf m
+  pub taken : r .taken ≡ m .taken
+
+-- r is m without the rounds in the places ws
+pub record Struck (m : ListOrderedMultimap) (ws : List ℕ) (r : ListOrderedMultimap) : Type 0 where
+  pub chained : Chained (linksOf r)
+  pub left : order (roundsOf r) ≡ strip ws (order (roundsOf m))
+  pub kept : RoundsOnly m r
+
+-- k is the place of a member of a well-linked map
+pub record Member (m : ListOrderedMultimap) (k : ℕ) : Type 0 where
+  pub linked : WellLinked m
+  pub inside : 0 < count k (order (membersOf m))
+
+-- x is the place of a round of a well-linked map
+pub record Round (m : ListOrderedMultimap) (x : ℕ) : Type 0 where
+  pub linked : WellLinked m
+  pub inside : 0 < count x (order (roundsOf m))
+
+-- r is m without the rounds of the member place k, which is still in the list of members; it is well-linked but for that
+pub record Emptied (m : ListOrderedMultimap) (k : ℕ) (r : ListOrderedMultimap) : Type 0 where
+  pub chained : Chained (linksOf r)
+  pub index : Holds (r .index) (r .keys) (order (membersOf r))
+  pub member : 0 < count k (order (membersOf r))
+  pub none : recordIn (linksOf r) k ≡ []
+  pub some : (j : ℕ) → 0 < count j (order (membersOf r)) → j ≢ k → 0 < length (recordIn (linksOf r) j)
+  pub keys : r .keys ≡ m .keys
+  pub values : r .values ≡ m .values
+  pub taken : r .taken ≡ m .taken
+  pub room : r .«values_len» < maxRounds
+  pub pairs : pairs r ≡ others (at (m .keys) k) (pairs m)
+  pub members : members r ≡ members m

@@ -1,0 +1,247 @@
+// The calls that change a map. Here stand the private functions that they are made of, each in place; the modules hold the calls.
+use index::KeyPlace;
+use multimap::ListOrderedMultimap;
+use multimap::MEMBERS;
+use multimap::ROUNDS;
+use multimap::ValuePlace;
+ghost use mathlib.Core.Path.{_≡_};
+ghost use Prim.Native.Nat.{_+_, min};
+ghost use lib.Dec.{eqb};
+ghost use Rattle.links.specs.Path.{pick, walk};
+ghost use Rattle.steps.specs.State.{maxTaken};
+ghost use Rattle.changing.specs.Adding.{Open, AddedTo, Joins, Joined, Posted};
+ghost use mathlib.Core.Bool.{cond};
+ghost use mathlib.Core.List.{map};
+ghost use lib.ListN.{getD};
+ghost use Rattle.steps.specs.Step.{over};
+ghost use Rattle.multimap.specs.Map.{at, valueAt};
+ghost use Rattle.changing.specs.Copy.{Copies};
+ghost use Rattle.changing.specs.Strike.{chosen, visited, Stretch, Struck, Member, Emptied};
+ghost use Rattle.changing.specs.Sweep.{idle, Sweepable, Swept, RecordRemoved};
+
+pub mod adding;
+pub mod inserting;
+pub mod removing;
+
+// x where a is b, else y.
+fn either(a: u16, b: u16, x: u16, y: u16) -> u16
+    ensures { λ r. ⌜ r ≡ pick (eqb a b) x y ⌝ }
+{
+    if a == b { x } else { y }
+}
+
+// One more round taken in.
+fn more(taken: u32) -> u32
+    ensures { λ r. ⌜ r ≡ min (taken + 1) maxTaken ⌝ }
+{
+    if taken < 4294967295 { taken + 1 } else { taken }
+}
+
+// The map with the new member k at the back, with no round yet. Its place in the index is `at`.
+fn join(mut m: ListOrderedMultimap, k: u64, at: usize) -> ListOrderedMultimap
+    requires { ⌜ Joins m k at ⌝ }
+    ensures { λ r. ⌜ Joined m k r ⌝ }
+{
+    let held = m.keys_len;
+    let used = m.keys_fresh;
+    let free = m.keys_free;
+    // The first freed place, or where there is none a fresh one.
+    let key = either(held, used, used, free.0);
+    let i = key as usize;
+    let then = m.next_key[i];
+    let freed = KeyPlace(either(held, used, free.0, then.0));
+    let fresh = either(held, used, used + 1, used);
+    let last = m.previous_key[256];
+    let before = last.0 as usize;
+    // The cell with the head and the tail of the member's rounds.
+    let end = ROUNDS + key;
+    let e = end as usize;
+    m.keys_len = held + 1;
+    m.keys_fresh = fresh;
+    m.keys_free = freed;
+    m.next_key[before] = KeyPlace(key);
+    m.next_key[i] = KeyPlace(MEMBERS);
+    m.previous_key[i] = last;
+    m.previous_key[256] = KeyPlace(key);
+    m.keys[i] = k;
+    m.length[i] = 0;
+    m.index[at] = key;
+    m.next_index[e] = ValuePlace(end);
+    m.previous_index[e] = ValuePlace(end);
+    m
+}
+
+// The map with the round v of the member place `key` at the back.
+fn add_round(mut m: ListOrderedMultimap, key: u16, v: u64) -> ListOrderedMultimap
+    requires { ⌜ Open m key ⌝ }
+    ensures { λ r. ⌜ AddedTo m key v r ⌝ }
+{
+    let held = m.values_len;
+    let used = m.values_fresh;
+    let free = m.values_free;
+    // The first freed place, or where there is none a fresh one.
+    let place = either(held, used, used, free.0);
+    let x = place as usize;
+    let then = m.next_value[x];
+    let freed = ValuePlace(either(held, used, free.0, then.0));
+    let fresh = either(held, used, used + 1, used);
+    let last = m.previous_value[1024];
+    let before = last.0 as usize;
+    let k = key as usize;
+    let n = m.length[k];
+    // The cell with the head and the tail of the member's rounds.
+    let end = ROUNDS + key;
+    let e = end as usize;
+    let tail = m.previous_index[e];
+    let t = tail.0 as usize;
+    m.values_len = held + 1;
+    m.values_fresh = fresh;
+    m.values_free = freed;
+    m.next_value[before] = ValuePlace(place);
+    m.next_value[x] = ValuePlace(ROUNDS);
+    m.previous_value[x] = last;
+    m.previous_value[1024] = ValuePlace(place);
+    m.values[x] = v;
+    m.key_index[x] = KeyPlace(key);
+    m.next_index[t] = ValuePlace(place);
+    m.next_index[x] = ValuePlace(end);
+    m.previous_index[x] = tail;
+    m.previous_index[e] = ValuePlace(place);
+    m.length[k] = n + 1;
+    m.taken = more(m.taken);
+    m
+}
+
+// The map with the new member k at the back and its first round v. Its place in the index is `at`.
+fn admit(m: ListOrderedMultimap, k: u64, at: usize, v: u64) -> ListOrderedMultimap
+    requires { ⌜ Joins m k at ⌝ }
+    ensures { λ r. ⌜ Posted m k v r ⌝ }
+{
+    let joined = join(m, k, at);
+    let last = joined.previous_key[256];
+    add_round(joined, last.0, v)
+}
+
+// x where the test holds, else y.
+fn choose(test: bool, x: u16, y: u16) -> u16
+    ensures { λ r. ⌜ r ≡ cond test x y ⌝ }
+{
+    if test { x } else { y }
+}
+
+// Whether the i-th mark is 0, or there is none.
+fn dropped(marks: &[u8], i: usize) -> bool
+    ensures { λ r. ⌜ r ≡ eqb (getD (now (marks .entry)) i 0) 0 ⌝ }
+{
+    if i < marks.len() { marks[i] == 0 } else { true }
+}
+
+// The map without those of `turns` rounds whose mark is 0 or missing; the rounds are those from `start` on along the record, or along
+// the list of rounds. Members stay, also those left with no round.
+fn strike(
+    m: ListOrderedMultimap,
+    chain: bool,
+    start: u16,
+    turns: usize,
+    marks: &[u8],
+) -> ListOrderedMultimap
+    requires { ⌜ Stretch chain m start turns ⌝ }
+    ensures { λ r. ⌜ Struck m (chosen (now (marks .entry)) (visited chain m start turns)) r ⌝ }
+{
+    let mut out = m;
+    let mut at = start;
+    let mut i = 0;
+    while i < turns {
+        let x = at as usize;
+        let next = out.next_value[x];
+        let after = out.next_index[x];
+        if dropped(marks, i) {
+            let prev = out.previous_value[x];
+            let before = out.previous_index[x];
+            let key = out.key_index[x];
+            let n = out.length[key.0 as usize];
+            let free = out.values_free;
+            let freed = ValuePlace(at);
+            out.next_value[prev.0 as usize] = next;
+            out.next_value[x] = free;
+            out.previous_value[next.0 as usize] = prev;
+            out.values_free = freed;
+            out.values_len = out.values_len - 1;
+            out.next_index[before.0 as usize] = after;
+            out.previous_index[after.0 as usize] = before;
+            out.length[key.0 as usize] = n - 1;
+        }
+        at = choose(chain, after.0, next.0);
+        i += 1;
+    }
+    out
+}
+
+// The map without those of `turns` members, from `start` on along the list of members, that have no round.
+fn sweep(m: ListOrderedMultimap, start: u16, turns: usize) -> ListOrderedMultimap
+    requires { ⌜ Sweepable m start turns ⌝ }
+    ensures { λ r. ⌜ Swept m (idle m start turns) r ⌝ }
+{
+    let keys = m.keys;
+    let mut out = m;
+    let mut at = start;
+    let mut i = 0;
+    while i < turns {
+        let x = at as usize;
+        let next = out.next_key[x];
+        let n = out.length[x];
+        if n == 0 {
+            let prev = out.previous_key[x];
+            let free = out.keys_free;
+            let freed = KeyPlace(at);
+            let member = keys[x];
+            index::remove(&mut out.index, &keys, member);
+            out.next_key[prev.0 as usize] = next;
+            out.next_key[x] = free;
+            out.previous_key[next.0 as usize] = prev;
+            out.keys_free = freed;
+            out.keys_len = out.keys_len - 1;
+        }
+        at = next.0;
+        i += 1;
+    }
+    out
+}
+
+// The map without the rounds of the member place `key`. The member stays, in its place of the list.
+fn empty_record(m: ListOrderedMultimap, key: u16) -> ListOrderedMultimap
+    requires { ⌜ Member m key ⌝ }
+    ensures { λ r. ⌜ Emptied m key r ⌝ }
+{
+    let next = m.next_index;
+    let lengths = m.length;
+    let root = ROUNDS + key;
+    let head = next[root as usize];
+    let n = lengths[key as usize];
+    strike(m, true, head.0, n as usize, b"")
+}
+
+// The map without the member in the place `key` and its rounds.
+fn remove_record(m: ListOrderedMultimap, key: u16) -> ListOrderedMultimap
+    requires { ⌜ Member m key ⌝ }
+    ensures { λ r. ⌜ RecordRemoved m key r ⌝ }
+{
+    let emptied = empty_record(m, key);
+    sweep(emptied, key, 1)
+}
+
+// The rounds in the n places from `head` on by `next`, written to the front of `out`.
+fn copy_record(values: &[u64; 1024], next: [ValuePlace; 1280], head: u16, n: usize, out: &mut [u64])
+    requires { ⌜ Copies next head n (now out) ⌝ }
+    ensures { λ r. ⌜ now (out .exit) ≡ over (map (at (now (values .entry))) (walk (valueAt next) head n)) (now (out .entry)) ⌝ }
+{
+    let mut place = head;
+    let mut i = 0;
+    while i < n {
+        let x = place as usize;
+        out[i] = values[x];
+        let after = next[x];
+        place = after.0;
+        i += 1;
+    }
+}

@@ -1,0 +1,8 @@
+pub mod Lists
+pub mod Walks
+pub mod Clears
+pub mod Members
+pub mod Rounds
+pub mod Indexes
+pub mod Renumber
+pub mod Packs

@@ -1,0 +1,3 @@
+-- What the contracts of `packing` cite.
+pub mod Answer
+pub mod Moves

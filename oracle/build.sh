@@ -1,0 +1,59 @@
+#!/bin/sh
+# Builds the Rust crate that the port is compared with: list_ordered_multimap.rs of ordered-multimap 0.7.3 as published,
+# over Debian's dlv-list and hashbrown, as target/oracle/libordered_multimap.rlib. Nothing is written outside target/.
+# ORACLE_SOURCE names the source file where it does not stand beside the work tree.
+set -eu
+
+root=$(cd "$(dirname "$0")/.." && pwd)
+out=$root/target/oracle
+source=${ORACLE_SOURCE:-$root/../shared/docs/src/src/list_ordered_multimap.rs}
+source_sha256=fb04d3f53b6cffd4cbcd8133da41817c1602f93c88a3cc75d79196e0eae0269b
+
+die() {
+    echo "oracle/build.sh: $*" >&2
+    exit 1
+}
+
+has_sha256() {
+    [ -f "$1" ] && echo "$2  $1" | sha256sum --check --status -
+}
+
+# Unpacks the package of this name, version and checksum to target/oracle/packages.
+unpack() {
+    deb=$out/debs/$1_$2_amd64.deb
+    if ! has_sha256 "$deb" "$3"; then
+        rm -f "$deb"
+        (cd "$out/debs" && apt-get -q -o APT::Sandbox::User=root download "$1=$2") ||
+            die "apt-get does not give version $2 of $1: has 'apt-get update' been run, and is this Debian 12 on amd64?"
+        has_sha256 "$deb" "$3" || die "$1 $2 came with another sha256 than $3"
+    fi
+    dpkg -x "$deb" "$out/packages"
+}
+
+library() {
+    rustc -O --crate-type rlib --cap-lints allow --remap-path-prefix "$out/src=src" -L "dependency=$out" --out-dir "$out" "$@"
+}
+
+has_sha256 "$source" "$source_sha256" ||
+    die "$source is missing, or has another sha256 than $source_sha256; ORACLE_SOURCE may name the file"
+
+mkdir -p "$out/debs" "$out/src"
+rm -rf "$out/packages"
+unpack librust-dlv-list-dev 0.3.0-1 d90f69dc27770b6651692f31e9b069dfd4e81c99fcd676258a382703285e0f9d
+unpack librust-hashbrown-dev 0.12.3-1 86ca499697497d825a2e76f43648ad2d49cc65763964ff234ce32c4fc862f55f
+
+# The file ends with an attribute of something that is not in it. That line alone is left out.
+[ "$(tail -n 1 "$source")" = '#[allow(unused_results)]' ] || die "$source has another last line than the attribute to leave out"
+sed '$d' "$source" >"$out/src/list_ordered_multimap.rs"
+cat >"$out/src/lib.rs" <<'END'
+extern crate alloc;
+pub mod list_ordered_multimap;
+pub use list_ordered_multimap::ListOrderedMultimap;
+END
+
+registry=$out/packages/usr/share/cargo/registry
+library --edition 2018 --crate-name dlv_list "$registry/dlv-list-0.3.0/src/lib.rs"
+library --edition 2021 --crate-name hashbrown --cfg 'feature="inline-more"' "$registry/hashbrown-0.12.3/src/lib.rs"
+library --edition 2021 --crate-name ordered_multimap --cfg 'feature="std"' \
+    --extern "dlv_list=$out/libdlv_list.rlib" --extern "hashbrown=$out/libhashbrown.rlib" "$out/src/lib.rs"
+echo "built target/oracle/libordered_multimap.rlib"

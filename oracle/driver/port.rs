@@ -1,0 +1,184 @@
+// The port, reached through one C function that runs a tape of calls from an empty map; and tapes.
+
+use crate::model::{Answer, Call, Model, Op, OPS};
+
+// A tape: six numbers for each call (its number, k, v, the lengths of its out slice, its second one and its marks); all
+// out slices, second ones and marks one after the other, each kind on its own; and room for four numbers of each answer.
+#[derive(Clone, Debug, PartialEq, Eq)]
+pub struct Tape {
+    pub calls: Vec<u64>,
+    pub outs: Vec<u64>,
+    pub outs2: Vec<u64>,
+    pub marks: Vec<u8>,
+    pub answers: Vec<u64>,
+}
+
+// What slices and answers hold before a run: another number at each place, and none that the lists use.
+pub fn untouched(len: usize) -> Vec<u64> {
+    (0..len as u64).map(|at| 0xEEEE_EEEE_0000_0000 + at).collect()
+}
+
+impl Tape {
+    pub fn of(list: &[Call]) -> Tape {
+        let mut calls = Vec::with_capacity(6 * list.len());
+        let mut marks = Vec::new();
+        let (mut out, mut out2) = (0, 0);
+        for call in list {
+            let lengths = [call.out as u64, call.out2 as u64, call.marks.len() as u64];
+            calls.extend([call.op as u64, call.k, call.v]);
+            calls.extend(lengths);
+            marks.extend(&call.marks);
+            out += call.out;
+            out2 += call.out2;
+        }
+        let answers = untouched(4 * list.len());
+        Tape { calls, outs: untouched(out), outs2: untouched(out2), marks, answers }
+    }
+
+    // The calls that a tape has: up to its end, or to the first that does not fit.
+    pub fn decode(&self) -> Vec<Call> {
+        let mut list: Vec<Call> = Vec::new();
+        let mut room = [self.outs.len() as u64, self.outs2.len() as u64, self.marks.len() as u64];
+        for six in self.calls.chunks_exact(6) {
+            let lengths = [six[3], six[4], six[5]];
+            let space = self.answers.len() - 4 * list.len();
+            if space < 4 || !fits(six[0], lengths, room) {
+                break;
+            }
+            let start = self.marks.len() - room[2] as usize;
+            let marks = self.marks[start..start + six[5] as usize].to_vec();
+            let op = OPS[six[0] as usize].0;
+            list.push(Call { op, k: six[1], v: six[2], out: six[3] as usize, out2: six[4] as usize, marks });
+            for (left, length) in room.iter_mut().zip(lengths) {
+                *left -= length;
+            }
+        }
+        list
+    }
+}
+
+// Is there such a call, with slices and marks only where it has them, and does the tape hold so many?
+fn fits(op: u64, lengths: [u64; 3], room: [u64; 3]) -> bool {
+    if op >= OPS.len() as u64 {
+        return false;
+    }
+    let op = OPS[op as usize].0;
+    (op.lends() || lengths[0] == 0)
+        && (op == Op::Iter || lengths[1] == 0)
+        && (op == Op::Retain || lengths[2] == 0)
+        && lengths.iter().zip(room).all(|(&length, left)| length <= left)
+}
+
+// The four numbers of an answer.
+pub fn words(answer: Answer) -> [u64; 4] {
+    match answer {
+        Answer::Refused(number) => [0, number, 0, 0],
+        Answer::None => [1, 0, 0, 0],
+        Answer::Done => [2, 0, 0, 0],
+        Answer::Round(v) => [3, v, 0, 0],
+        Answer::Count(count) => [4, count, 0, 0],
+        Answer::Present(present) => [5, present as u64, 0, 0],
+        Answer::Popped(k, v, gone) => [6, k, v, gone as u64],
+        Answer::Occupied(len) => [7, len, 0, 0],
+        Answer::Vacant(k) => [8, k, 0, 0],
+    }
+}
+
+// The answer of four numbers, if they are one's.
+pub fn answer_of(words: &[u64]) -> Option<Answer> {
+    let answer = match *words {
+        [0, number, 0, 0] => Answer::Refused(number),
+        [1, 0, 0, 0] => Answer::None,
+        [2, 0, 0, 0] => Answer::Done,
+        [3, v, 0, 0] => Answer::Round(v),
+        [4, count, 0, 0] => Answer::Count(count),
+        [5, present @ (0 | 1), 0, 0] => Answer::Present(present == 1),
+        [6, k, v, gone @ (0 | 1)] => Answer::Popped(k, v, gone == 1),
+        [7, len, 0, 0] => Answer::Occupied(len),
+        [8, k, 0, 0] => Answer::Vacant(k),
+        _ => return None,
+    };
+    Some(answer)
+}
+
+// What runs a tape from an empty map: it fills the tape's slices and answers, and leaves the rest as it is.
+pub trait Port {
+    fn replay(&self, tape: &mut Tape);
+}
+
+// The model as a port.
+pub struct ModelPort;
+
+impl Port for ModelPort {
+    fn replay(&self, tape: &mut Tape) {
+        replay_with(tape, &mut Model::default(), Model::step);
+    }
+}
+
+// Runs a tape with a step that takes the model's form.
+pub fn replay_with<State>(
+    tape: &mut Tape,
+    state: &mut State,
+    step: impl Fn(&mut State, &Call, &mut [u64], &mut [u64]) -> Answer,
+) {
+    let (mut out, mut out2) = (0, 0);
+    for (at, call) in tape.decode().iter().enumerate() {
+        let lent = &mut tape.outs[out..out + call.out];
+        let lent2 = &mut tape.outs2[out2..out2 + call.out2];
+        let answer = step(state, call, lent, lent2);
+        tape.answers[4 * at..4 * at + 4].copy_from_slice(&words(answer));
+        out += call.out;
+        out2 += call.out2;
+    }
+}
+
+// The port itself, where its static library is linked (--cfg port).
+pub fn linked() -> Option<Box<dyn Port>> {
+    #[cfg(port)]
+    return Some(Box::new(library::Library));
+    #[cfg(not(port))]
+    return None;
+}
+
+#[cfg(port)]
+mod library {
+    use super::{Port, Tape};
+
+    extern "C" {
+        // Each slice is a pointer and a length.
+        fn replay(
+            calls: *const u64,
+            calls_len: usize,
+            outs: *mut u64,
+            outs_len: usize,
+            outs2: *mut u64,
+            outs2_len: usize,
+            marks: *const u8,
+            marks_len: usize,
+            answers: *mut u64,
+            answers_len: usize,
+        );
+    }
+
+    pub struct Library;
+
+    impl Port for Library {
+        fn replay(&self, tape: &mut Tape) {
+            // Each pointer and length are those of one vector, and the five vectors do not overlap.
+            unsafe {
+                replay(
+                    tape.calls.as_ptr(),
+                    tape.calls.len(),
+                    tape.outs.as_mut_ptr(),
+                    tape.outs.len(),
+                    tape.outs2.as_mut_ptr(),
+                    tape.outs2.len(),
+                    tape.marks.as_ptr(),
+                    tape.marks.len(),
+                    tape.answers.as_mut_ptr(),
+                    tape.answers.len(),
+                );
+            }
+        }
+    }
+}

@@ -1,0 +1,350 @@
+// Tests of the driver itself: the model against document 01's own examples, tapes, and ports that are wrong on purpose,
+// each of which the comparison has to find.
+
+use crate::compare::{Difference, Session};
+use crate::crate_map::{passes, strikes_neighbours, CrateMap};
+use crate::lists::{self, fnv, start_place, Random};
+use crate::model::{Answer, Call, Model, Op, MAX_ROUNDS};
+use crate::port::{answer_of, replay_with, words, ModelPort, Port, Tape};
+use crate::shrink::shrink;
+
+pub fn run() -> bool {
+    std::panic::set_hook(Box::new(|_| {}));
+    let mut checks = vec![
+        ("the marked table", marked_table()),
+        ("edges", edges()),
+        ("FNV-1a by its published values", published_hashes()),
+        ("tapes decode to their lists", tapes_decode()),
+        ("odd tapes end where they should", odd_tapes_end()),
+        ("passes of retain", passes_do_what_marks_say()),
+        ("another state of the crate is seen", other_states_are_seen()),
+    ];
+    checks.extend(WRONG.map(|(name, step)| (name, is_found(&|| Box::new(WrongPort(step))))));
+    checks.push(("wrong: a removal leaves a gap in the index", is_found(&|| Box::new(GapPort))));
+    for (name, good) in &checks {
+        println!("{:50} {}", name, if *good { "good" } else { "WRONG" });
+    }
+    checks.iter().all(|check| check.1)
+}
+
+fn held(pairs: &[(u64, u64)]) -> Model {
+    let mut model = Model::default();
+    for &(k, v) in pairs {
+        model.step(&Call::new(Op::Append, k, v), &mut [], &mut []);
+    }
+    model
+}
+
+// The marked cases of document 01: pairs, call, answer, what is written, pairs afterwards, members afterwards.
+fn marked_table() -> bool {
+    type Case = (&'static [(u64, u64)], Call, Answer, &'static [u64], &'static [(u64, u64)], &'static [u64]);
+    let call = Call::new;
+    let cases: [Case; 10] = [
+        (&[], call(Op::PopFront, 0, 0), Answer::None, &[], &[], &[]),
+        (&[], call(Op::Append, 7, 10), Answer::Present(false), &[], &[(7, 10)], &[7]),
+        (&[(7, 10)], call(Op::Append, 7, 11), Answer::Present(true), &[], &[(7, 10), (7, 11)], &[7]),
+        (
+            &[(7, 10), (9, 20), (7, 11)],
+            Call::lending(Op::InsertAll, 7, 12, 2),
+            Answer::Count(2),
+            &[10, 11],
+            &[(9, 20), (7, 12)],
+            &[7, 9],
+        ),
+        (&[(9, 20)], Call::lending(Op::RemoveAll, 5, 0, 0), Answer::Count(0), &[], &[(9, 20)], &[9]),
+        (&[(9, 20), (7, 12)], call(Op::PopBack, 0, 0), Answer::Popped(7, 12, true), &[], &[(9, 20)], &[9]),
+        (&[(7, 10), (7, 11)], call(Op::PopFront, 0, 0), Answer::Popped(7, 10, false), &[], &[(7, 11)], &[7]),
+        (&[(7, 10), (7, 11), (7, 12)], Call::retain(vec![0, 0, 1]), Answer::Count(1), &[], &[(7, 12)], &[7]),
+        (&[(7, 10), (7, 11)], Call::retain(vec![0, 0]), Answer::Count(0), &[], &[], &[]),
+        (&[(7, 10), (9, 20)], call(Op::PackTo, 1, 2), Answer::Refused(4), &[], &[(7, 10), (9, 20)], &[7, 9]),
+    ];
+    cases.iter().all(|(before, call, answer, written, pairs, members)| {
+        let mut model = held(before);
+        let mut out = vec![0; call.out];
+        model.step(call, &mut out, &mut []) == *answer
+            && out == *written
+            && model.pairs == *pairs
+            && model.members == *members
+    })
+}
+
+// With 1,023 rounds a known member's append passes, with 1,024 none does. With 256 members and 300 rounds a new one gets
+// 2, a known one passes.
+fn edges() -> bool {
+    let append = |model: &mut Model, k| model.step(&Call::new(Op::Append, k, 0), &mut [], &mut []);
+    let mut rounds = held(&(0..1023).map(|at| (at % 200, at)).collect::<Vec<_>>());
+    let mut members = held(&(0..300).map(|at| (at % 256, at)).collect::<Vec<_>>());
+    append(&mut rounds, 5) == Answer::Present(true)
+        && append(&mut rounds, 5) == Answer::Refused(1)
+        && append(&mut rounds, 999) == Answer::Refused(1)
+        && append(&mut members, 999) == Answer::Refused(2)
+        && append(&mut members, 255) == Answer::Present(true)
+        && rounds.taken == 1024
+        && members.taken == 301
+}
+
+fn published_hashes() -> bool {
+    fnv(b"") == 0xcbf29ce484222325 && fnv(b"a") == 0xaf63dc4c8601ec8c && fnv(b"foobar") == 0x85944171f73967e8
+}
+
+fn sample() -> Vec<Call> {
+    vec![
+        Call::new(Op::Append, 7, 10),
+        Call::new(Op::Append, 9, 20),
+        Call::new(Op::Append, 7, 11),
+        Call::lending(Op::InsertAll, 7, 12, 3),
+        Call::iter(3, 4),
+        Call::lending(Op::Keys, 0, 0, 1),
+        Call::new(Op::PopBack, 0, 0),
+        Call::retain(vec![0]),
+        Call::new(Op::Taken, 0, 0),
+    ]
+}
+
+fn tapes_decode() -> bool {
+    let list = sample();
+    let mut tape = Tape::of(&list);
+    let same = tape.decode() == list;
+    ModelPort.replay(&mut tape);
+    let due = [
+        Answer::Present(false),
+        Answer::Present(false),
+        Answer::Present(true),
+        Answer::Count(2),
+        Answer::Count(2),
+        Answer::Refused(3),
+        Answer::Popped(7, 12, true),
+        Answer::Count(0),
+        Answer::Count(4),
+    ];
+    let untouched = Tape::of(&list);
+    same && tape.answers == due.map(words).concat()
+        && due.iter().all(|&answer| answer_of(&words(answer)) == Some(answer))
+        && tape.outs[..5] == [10, 11, untouched.outs[2], 9, 7]
+        && tape.outs[5..] == untouched.outs[5..]
+        && tape.outs2[..2] == [20, 12]
+        && tape.outs2[2..] == untouched.outs2[2..]
+}
+
+// Tapes that break off: by a part of a call, a call that there is none of, slices or marks that are not there or that the
+// call has no use for, and too few places for answers.
+pub fn odd_tapes() -> Vec<Tape> {
+    let whole = Tape::of(&sample());
+    let changed = |at: usize, number: u64| {
+        let mut tape = whole.clone();
+        tape.calls[at] = number;
+        tape
+    };
+    let mut part = whole.clone();
+    part.calls.truncate(6 * 7 + 5);
+    let mut few_answers = whole.clone();
+    few_answers.answers.truncate(4 * 7 + 3);
+    let mut few_marks = whole.clone();
+    few_marks.marks.clear();
+    let mut few_outs = whole.clone();
+    few_outs.outs.truncate(6);
+    let mut few_outs2 = whole.clone();
+    few_outs2.outs2.truncate(3);
+    let mut longer = whole.clone();
+    longer.answers.push(1);
+    longer.outs.push(2);
+    longer.outs2.push(3);
+    longer.marks.push(4);
+    vec![
+        part,
+        few_answers,
+        few_marks,
+        few_outs,
+        few_outs2,
+        changed(6 * 6, 24),
+        changed(6 * 6, u64::MAX),
+        changed(6 * 6 + 3, 1),
+        changed(6 * 6 + 4, 1),
+        changed(6 * 6 + 5, 1),
+        changed(6 * 4 + 4, u64::MAX),
+        longer,
+    ]
+}
+
+fn odd_tapes_end() -> bool {
+    let lengths: Vec<usize> = odd_tapes().iter().map(|tape| tape.decode().len()).collect();
+    lengths == [7, 7, 7, 5, 4, 6, 6, 6, 6, 6, 4, 9]
+}
+
+// Over random members and marks: the passes together strike what the marks say, and none strikes neighbours.
+fn passes_do_what_marks_say() -> bool {
+    let mut random = Random(3);
+    (0..1000).all(|_| {
+        let n = random.below(20);
+        let members: Vec<u64> = (0..n).map(|_| random.below(3) as u64).collect();
+        let marks: Vec<u8> = (0..n).map(|_| random.below(2) as u8).collect();
+        let mut left: Vec<usize> = (0..n).collect();
+        let survived = passes(&members, &marks).iter().all(|pass| {
+            let now: Vec<u64> = left.iter().map(|&at| members[at]).collect();
+            let good = !strikes_neighbours(&now, pass);
+            left = left.iter().zip(pass).filter(|pair| *pair.1 == 1).map(|pair| *pair.0).collect();
+            good
+        });
+        survived && left == (0..n).filter(|&at| marks[at] == 1).collect::<Vec<_>>()
+    })
+}
+
+// The crate's map beside the same lists, and beside lists with one thing changed.
+fn other_states_are_seen() -> bool {
+    let pairs = [(1, 10), (2, 20), (1, 11)];
+    let mut map = CrateMap::new();
+    for (k, v) in pairs {
+        map.map.append(k, v);
+    }
+    let changes: [fn(&mut Model); 6] = [
+        |model| model.pairs[2].1 = 12,
+        |model| model.pairs.swap(0, 2),
+        |model| model.pairs.swap(0, 1),
+        |model| model.members.swap(0, 1),
+        |model| model.pairs.truncate(2),
+        |model| model.members.push(3),
+    ];
+    let seen = changes.iter().all(|change| {
+        let mut model = held(&pairs);
+        change(&mut model);
+        map.difference(&model, 1).is_some()
+    });
+    seen && map.difference(&held(&pairs), 3).is_none()
+}
+
+type Step = fn(&mut Model, &Call, &mut [u64], &mut [u64]) -> Answer;
+
+// The model with one fault each.
+const WRONG: [(&str, Step); 10] = [
+    ("wrong: insert_all moves its member to the back", |model, call, out, out2| {
+        let answer = model.step(call, out, out2);
+        if call.op == Op::InsertAll && !matches!(answer, Answer::Refused(_)) {
+            model.members.retain(|&k| k != call.k);
+            model.members.push(call.k);
+        }
+        answer
+    }),
+    ("wrong: K is made anew from P", |model, call, out, out2| {
+        let answer = model.step(call, out, out2);
+        model.members.clear();
+        for pair in &model.pairs {
+            if !model.members.contains(&pair.0) {
+                model.members.push(pair.0);
+            }
+        }
+        answer
+    }),
+    ("wrong: a refused append counts for T", |model, call, out, out2| {
+        let answer = model.step(call, out, out2);
+        if call.op == Op::Append && answer == Answer::Refused(1) {
+            model.taken += 1;
+        }
+        answer
+    }),
+    ("wrong: append is refused one round early", |model, call, out, out2| {
+        if call.op == Op::Append && model.pairs.len() == MAX_ROUNDS - 1 {
+            return Answer::Refused(1);
+        }
+        model.step(call, out, out2)
+    }),
+    ("wrong: append says present each time", |model, call, out, out2| match model.step(call, out, out2) {
+        Answer::Present(_) if call.op == Op::Append => Answer::Present(true),
+        answer => answer,
+    }),
+    ("wrong: pop_back says that its member is gone", |model, call, out, out2| match model.step(call, out, out2) {
+        Answer::Popped(k, v, _) if call.op == Op::PopBack => Answer::Popped(k, v, true),
+        answer => answer,
+    }),
+    ("wrong: get_all clears the rest of its slice", |model, call, out, out2| {
+        let answer = model.step(call, out, out2);
+        if let (Op::GetAll, Answer::Count(count)) = (call.op, answer) {
+            out[count as usize..].fill(0);
+        }
+        answer
+    }),
+    ("wrong: a mark of 2 keeps its pair", |model, call, out, out2| {
+        let marks = call.marks.iter().map(|&mark| if mark == 2 { 1 } else { mark }).collect();
+        model.step(&Call { marks, ..call.clone() }, out, out2)
+    }),
+    ("wrong: a member without a round stays after retain", |model, call, out, out2| {
+        let members = model.members.clone();
+        let answer = model.step(call, out, out2);
+        if call.op == Op::Retain && !matches!(answer, Answer::Refused(_)) {
+            model.members = members;
+        }
+        answer
+    }),
+    ("wrong: a short slice of iter is written to", |model, call, out, out2| {
+        let answer = model.step(call, out, out2);
+        if call.op == Op::Iter && answer == Answer::Refused(3) && !out.is_empty() && !model.pairs.is_empty() {
+            out[0] = model.pairs[0].0;
+        }
+        answer
+    }),
+];
+
+struct WrongPort(Step);
+
+impl Port for WrongPort {
+    fn replay(&self, tape: &mut Tape) {
+        replay_with(tape, &mut Model::default(), self.0);
+    }
+}
+
+// The model with an index like the port's, from which members are taken without closing the gap; entry_len asks it.
+struct GapPort;
+
+struct Indexed {
+    model: Model,
+    index: Vec<Option<u64>>,
+}
+
+impl Indexed {
+    // The place where the member stands, or the empty one that ends the search.
+    fn search(&self, k: u64) -> usize {
+        let mut at = start_place(k) as usize;
+        while self.index[at].map_or(false, |other| other != k) {
+            at = (at + 1) % 512;
+        }
+        at
+    }
+
+    fn step(&mut self, call: &Call, out: &mut [u64], out2: &mut [u64]) -> Answer {
+        if call.op == Op::EntryLen && self.index[self.search(call.k)].is_none() {
+            return Answer::Count(0);
+        }
+        let answer = self.model.step(call, out, out2);
+        let members = &self.model.members;
+        for place in &mut self.index {
+            *place = place.filter(|k| members.contains(k));
+        }
+        for &k in members.iter().filter(|&&k| !self.index.contains(&Some(k))).collect::<Vec<_>>() {
+            let at = self.search(k);
+            self.index[at] = Some(k);
+        }
+        answer
+    }
+}
+
+impl Port for GapPort {
+    fn replay(&self, tape: &mut Tape) {
+        replay_with(tape, &mut Indexed { model: Model::default(), index: vec![None; 512] }, Indexed::step);
+    }
+}
+
+// Does the comparison find a port that is wrong, and shrink the list that shows it?
+fn is_found(wrong: &dyn Fn() -> Box<dyn Port>) -> bool {
+    let compare = |list: &[Call]| Session::new(Some(wrong())).list(list).err();
+    find(Session::new(Some(wrong()))).map_or(false, |first| {
+        let smallest = shrink(first, 2, compare).list;
+        compare(&smallest).is_some() && (smallest.len() <= 4 || smallest.len() >= MAX_ROUNDS)
+    })
+}
+
+fn find(mut session: Session) -> Option<Difference> {
+    let mut random = Random(1);
+    lists::every_short_list(&mut session, 3)
+        .and_then(|_| lists::small_random_lists(&mut session, &mut random, 20_000))
+        .and_then(|_| lists::every_edge(&mut session, &mut random, 1))
+        .err()
+}
