@@ -98,22 +98,21 @@ module _ (k v : ℕ) (m : ListOrderedMultimap) (g : WellLinked m) where
       state : stateOf r ≡ replace k v (stateOf m)
       state = rw (a .pairs, a .members, a .taken, number, left, d .members, d .taken, u .present)
 
-      pub insert-known : Does linked (insert k v) m (say (round (at (o .values) (valueAt (m .«next_index») (1024 + x))))) r
+      pub insert-known : Does linked (insert k v) m (say (round (at (m .values) (valueAt (m .«next_index») (1024 + x))))) r
       insert-known =
           let h : ℕ = valueAt (m .«next_index») (1024 + x) in
-          let e : first (rounds k (pairs m)) ≡ round (at (o .values) h) =
-          ap first rounds-of ∙ first-round m x member-known ∙ ap (λ (l : List ℕ). round (at l h)) (sym (d .values)) in
-          does-change linked (insert k v) m (say (round (at (o .values) h))) (replace k v (stateOf m)) r refl refl
+          let e : first (rounds k (pairs m)) ≡ round (at (m .values) h) = ap first rounds-of ∙ first-round m x member-known in
+          does-change linked (insert k v) m (say (round (at (m .values) h))) (replace k v (stateOf m)) r refl refl
           (step-known k v (stateOf m) (u .present) ∙ rw e) state (a .linked)
 
       pub insert-all-known : (out last : List ℕ) → at (m .length) x ≤ length out
-          → last ≡ over (map (at (o .values)) (walk (valueAt (m .«next_index»)) (valueAt (m .«next_index») (1024 + x)) (at (m .length) x))) out
+          → last ≡ over (map (at (m .values)) (walk (valueAt (m .«next_index»)) (valueAt (m .«next_index») (1024 + x)) (at (m .length) x))) out
           → Does linked (insert-all k v out) m (write (C.count (at (m .length) x)) last) r
       insert-all-known out last room copied =
           let next : (ℕ → ℕ) = valueAt (m .«next_index») in
           let fits : short out (rounds k (pairs m)) ≡ false = le-ltb (length out) (length (rounds k (pairs m))) (rw many room) in
-          let w : map (at (o .values)) (walk next (next (1024 + x)) (at (m .length) x)) ≡ rounds k (pairs m) =
-          rw (d .values, walked m x member-known) (sym (rounds-of ∙ its-rounds m x member-known)) in
+          let w : map (at (m .values)) (walk next (next (1024 + x)) (at (m .length) x)) ≡ rounds k (pairs m) =
+          rw (walked m x member-known) (sym (rounds-of ∙ its-rounds m x member-known)) in
           let e : last ≡ over (rounds k (pairs m)) out = copied ∙ ap (λ (l : List ℕ). over l out) w in
           does-change linked (insert-all k v out) m (write (C.count (at (m .length) x)) last) (replace k v (stateOf m)) r refl refl
           (step-all-known k v (stateOf m) out (u .present) fits ∙ rw (e, many)) state (a .linked)

@@ -84,6 +84,16 @@ module _ (m : ListOrderedMultimap) (x : ℕ) (h : Round m x) where
   pub place-fits : x < 1024
   place-fits = in-array (roundsOf m) (g .chained .rounds) x (h .inside)
 
+  -- the place of its member
+  abbrev K : ℕ
+  K = keyAt (m .«key_index») x
+
+  K-in : 0 < count K (order (membersOf m))
+  K-in = g .chained .keys x (h .inside)
+
+  pub key-fits : keyAt (m .«key_index») x < 256
+  key-fits = in-array (membersOf m) (g .chained .members) K K-in
+
   pub round-stretch : Stretch false m x 1
   round-stretch =
       let p : Split x vs = split-at x vs (h .inside) in
@@ -102,17 +112,7 @@ module _ (m : ListOrderedMultimap) (x : ℕ) (h : Round m x) where
       (sym (ap (λ (l : List ℕ). has j (map f l)) w ∙ ap (has j) (map-append f (p .front) (p .back)) ∙ any-append (of j) (map f (p .front)) (map f (p .back))))
 
   module _ (o : ListOrderedMultimap) (s : Struck m (x ∷ []) o) where
-    -- the place of its member
-    abbrev K : ℕ
-    K = keyAt (o .«key_index») x
-
-    K-in : 0 < count K (order (membersOf m))
-    K-in = rw (s .kept .key-index) (g .chained .keys x (h .inside))
-
-    pub key-fits : keyAt (o .«key_index») x < 256
-    key-fits = in-array (membersOf m) (g .chained .members) K K-in
-
-    pub sweepable : Sweepable o (keyAt (o .«key_index») x) 1
+    pub sweepable : Sweepable o (keyAt (m .«key_index») x) 1
     sweepable =
         let p : Split K (order (membersOf o)) = split-at K (order (membersOf o)) (rw (ap order (s .kept .members)) K-in) in
         record { sound = struck-sound m g (x ∷ []) o s; front = p .front; back = p .back; whole = p .whole }
@@ -121,10 +121,9 @@ module _ (m : ListOrderedMultimap) (x : ℕ) (h : Round m x) where
     others : (j : ℕ) → 0 < count j (order (membersOf o)) → j ≢ K → at (o .length) j ≢ 0
     others j i n e =
         let i′ : 0 < count j (order (membersOf m)) = rw (ap order (s .kept .members)) at i in
-        let k : K ≡ key x = ap (λ (l : List _). keyAt l x) (s .kept .key-index) in
         let a : recordOf key j (order (roundsOf o)) ≡ recordIn (linksOf m) j =
         ap (recordOf key j) (s .left)
-        ∙ keep-inside (λ q. eqb (key q) j) (λ q. not (eqb q x)) vs (λ q u. ap not (ne-eqb q x (λ v. n (sym (eqb-true (key q) j u) ∙ ap key v ∙ sym k)))) in
+        ∙ keep-inside (λ q. eqb (key q) j) (λ q. not (eqb q x)) vs (λ q u. ap not (ne-eqb q x (λ v. n (sym (eqb-true (key q) j u) ∙ ap key v)))) in
         omega (arith, g .some j i′, ap length a, size-o m g (x ∷ []) o s j i′, e)
 
     gone : eqb (at (o .length) K) 0 ≡ not (has (pairAt m x .key) (rest m x))
@@ -132,14 +131,14 @@ module _ (m : ListOrderedMultimap) (x : ℕ) (h : Round m x) where
         let z : has (at (m .keys) K) (map (pairAt m) (order (roundsOf o))) ≡ not (eqb (at (o .length) K) 0) =
         has-size m g K K-in (order (roundsOf o)) (still m g (x ∷ []) o s) ∙ ap (λ (n : ℕ). not (eqb n 0)) (sym (size-o m g (x ∷ []) o s K K-in)) in
         sym (not-not (eqb (at (o .length) K) 0))
-        ∙ ap not (sym z ∙ ap (λ (l : List _). has (at (m .keys) (keyAt l x)) (map (pairAt m) (order (roundsOf o)))) (s .kept .key-index) ∙ ap (λ (l : List ℕ). has (pairAt m x .key) (map (pairAt m) l)) (s .left))
+        ∙ ap not (sym z ∙ ap (λ (l : List ℕ). has (pairAt m x .key) (map (pairAt m) l)) (s .left))
 
     -- whichever members have left, so that those with a round are there
     module _ (us : List ℕ) (r : ListOrderedMultimap) (w : Swept o us r) (cover : strip us (order (membersOf o)) ≡ keep (λ j. not (eqb (at (o .length) j) 0)) (order (membersOf o))) where
-      taken-out : (b : Bool) → eqb (at (o .length) K) 0 ≡ b → PoppedAt m x (P.Pair (at (o .keys) K) (at (o .values) x) b) r
+      taken-out : (b : Bool) → eqb (at (o .length) K) 0 ≡ b → PoppedAt m x (P.Pair (at (m .keys) K) (at (m .values) x) b) r
       taken-out b e =
           record {
-            answer = rw (s .kept .keys, s .kept .values, ap (λ (l : List _). keyAt l x) (s .kept .key-index), ← gone, e);
+            answer = ap (popped (at (m .keys) K) (at (m .values) x)) (sym e ∙ gone);
             state =
                 settled-state m g (x ∷ []) o s us r w cover ∙ ap (λ (l : List ℕ). keeping (map (pairAt m) l) (stateOf m)) (s .left)
                 ∙ off (stateOf m) (pairAt m x) (rest m x) (all-have m g) others-have;
@@ -147,12 +146,12 @@ module _ (m : ListOrderedMultimap) (x : ℕ) (h : Round m x) where
           }
 
     -- it was the member's last round
-    pub popped-last : at (o .length) (keyAt (o .«key_index») x) ≡ 0 → (r : ListOrderedMultimap) → Swept o (idle o (keyAt (o .«key_index») x) 1) r
-        → PoppedAt m x (P.Pair (at (o .keys) (keyAt (o .«key_index») x)) (at (o .values) x) true) r
+    pub popped-last : at (o .length) (keyAt (m .«key_index») x) ≡ 0 → (r : ListOrderedMultimap) → Swept o (idle o (keyAt (m .«key_index») x) 1) r
+        → PoppedAt m x (P.Pair (at (m .keys) (keyAt (m .«key_index») x)) (at (m .values) x) true) r
     popped-last e r w = taken-out (idle o K 1) r w (cover-one (at (o .length)) K (order (membersOf o)) others) true (eq-eqb (at (o .length) K) 0 e)
 
     -- it was not: nobody leaves
-    pub popped-one : at (o .length) (keyAt (o .«key_index») x) ≢ 0 → PoppedAt m x (P.Pair (at (o .keys) (keyAt (o .«key_index») x)) (at (o .values) x) false) o
+    pub popped-one : at (o .length) (keyAt (m .«key_index») x) ≢ 0 → PoppedAt m x (P.Pair (at (m .keys) (keyAt (m .«key_index») x)) (at (m .values) x) false) o
     popped-one e =
         let stays : Swept o [] o =
         record {

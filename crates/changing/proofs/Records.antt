@@ -141,7 +141,6 @@ module _ (m : ListOrderedMultimap) (k : ℕ) (h : Member m k) where
           none = none-left;
           some = λ j i n. rw (other-left j n) (h .linked .some j (rw (ap order (s .kept .members)) at i));
           keys = s .kept .keys;
-          values = s .kept .values;
           taken = s .kept .taken;
           room = fewer;
           pairs = pairs-left;
@@ -183,5 +182,4 @@ module _ (m : ListOrderedMultimap) (k : ℕ) (h : Member m k) (e : ListOrderedMu
         record {
           linked = record { chained = w .sound .chained; some = still; index = w .sound .index; taken = rw (w .kept .taken, d .taken) (h .linked .taken) };
           state = rw (pairs-now, members-now, w .kept .taken, d .taken);
-          values = w .kept .values ∙ d .values;
         }

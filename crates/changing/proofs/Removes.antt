@@ -115,18 +115,18 @@ module _ (k : ℕ) (m : ListOrderedMultimap) (g : WellLinked m) where
       state : stateOf r ≡ remove-member k (stateOf m)
       state = d .state ∙ ap (λ (n : ℕ). remove-member n (stateOf m)) is
 
-      pub removed : Does linked (remove k) m (say (round (at (r .values) (valueAt (m .«next_index») (1024 + x))))) r
+      pub removed : Does linked (remove k) m (say (round (at (m .values) (valueAt (m .«next_index») (1024 + x))))) r
       removed =
-          let e : first (rounds k (pairs m)) ≡ round (at (r .values) (next (1024 + x))) =
-          ap first rounds-of ∙ first-round m x h ∙ ap (λ (l : List ℕ). round (at l (next (1024 + x)))) (sym (d .values)) in
-          does-change linked (remove k) m (say (round (at (r .values) (next (1024 + x))))) (remove-member k (stateOf m)) r refl refl (step-remove k (stateOf m) ∙ rw e) state (d .linked)
+          let v : ℕ = at (m .values) (next (1024 + x)) in
+          let e : first (rounds k (pairs m)) ≡ round v = ap first rounds-of ∙ first-round m x h in
+          does-change linked (remove k) m (say (round v)) (remove-member k (stateOf m)) r refl refl (step-remove k (stateOf m) ∙ rw e) state (d .linked)
 
       pub removed-all : (out last : List ℕ) → at (m .length) x ≤ length out
-          → last ≡ over (map (at (r .values)) (walk (valueAt (m .«next_index»)) (valueAt (m .«next_index») (1024 + x)) (at (m .length) x))) out
+          → last ≡ over (map (at (m .values)) (walk (valueAt (m .«next_index»)) (valueAt (m .«next_index») (1024 + x)) (at (m .length) x))) out
           → Does linked (remove-all k out) m (write (C.count (at (m .length) x)) last) r
       removed-all out last room copied =
           let fits : short out (rounds k (pairs m)) ≡ false = le-ltb (length out) (length (rounds k (pairs m))) (rw many room) in
-          let u : map (at (r .values)) (walk next (next (1024 + x)) (at (m .length) x)) ≡ rounds k (pairs m) = rw (d .values, walked m x h) (sym (rounds-of ∙ its-rounds m x h)) in
+          let u : map (at (m .values)) (walk next (next (1024 + x)) (at (m .length) x)) ≡ rounds k (pairs m) = rw (walked m x h) (sym (rounds-of ∙ its-rounds m x h)) in
           let e : last ≡ over (rounds k (pairs m)) out = copied ∙ ap (λ (l : List ℕ). over l out) u in
           does-change linked (remove-all k out) m (write (C.count (at (m .length) x)) last) (remove-member k (stateOf m)) r refl refl
           (step-remove-all k (stateOf m) out (rw fits (and-false (St.present k (stateOf m)))) ∙ rw (e, many)) state (d .linked)

@@ -79,7 +79,6 @@ pub record Emptied (m : ListOrderedMultimap) (k : ℕ) (r : ListOrderedMultimap)
   pub none : recordIn (linksOf r) k ≡ []
   pub some : (j : ℕ) → 0 < count j (order (membersOf r)) → j ≢ k → 0 < length (recordIn (linksOf r) j)
   pub keys : r .keys ≡ m .keys
-  pub values : r .values ≡ m .values
   pub taken : r .taken ≡ m .taken
   pub room : r .«values_len» < maxRounds
   pub pairs : pairs r ≡ others (at (m .keys) k) (pairs m)

@@ -49,8 +49,7 @@ pub record Swept (m : ListOrderedMultimap) (ws : List ℕ) (r : ListOrderedMulti
   pub left : order (membersOf r) ≡ strip ws (order (membersOf m))
   pub kept : MembersOnly m r
 
--- r is m without the member in the place k and its rounds; the values are left where they stood
+-- r is m without the member in the place k and its rounds
 pub record RecordRemoved (m : ListOrderedMultimap) (k : ℕ) (r : ListOrderedMultimap) : Type 0 where
   pub linked : WellLinked r
   pub state : stateOf r ≡ remove-member (at (m .keys) k) (stateOf m)
-  pub values : r .values ≡ m .values

@@ -36,9 +36,9 @@ pub fn insert(m: ListOrderedMultimap, k: u64, v: u64) -> Insertion
             let next = m.next_index;
             let root = ROUNDS + key;
             let head = next[root as usize];
-            let first = head.0 as usize;
+            let values = m.values;
+            let round = values[head.0 as usize];
             let emptied = crate::empty_record(m, key);
-            let round = emptied.values[first];
             let added = crate::add_round(emptied, key, v);
             Insertion {
                 map: added,
@@ -105,8 +105,9 @@ pub fn insert_all(m: ListOrderedMultimap, k: u64, v: u64, out: &mut [u64]) -> In
             let next = m.next_index;
             let root = ROUNDS + key;
             let head = next[root as usize];
+            let values = m.values;
+            crate::copy_record(&values, next, head.0, count, out);
             let emptied = crate::empty_record(m, key);
-            crate::copy_record(&emptied.values, next, head.0, count, out);
             let added = crate::add_round(emptied, key, v);
             InsertionAll {
                 map: added,

@@ -118,7 +118,8 @@ fn admit(m: ListOrderedMultimap, k: u64, at: usize, v: u64) -> ListOrderedMultim
     ensures { λ r. ⌜ Posted m k v r ⌝ }
 {
     let joined = join(m, k, at);
-    let last = joined.previous_key[256];
+    let previous = joined.previous_key;
+    let last = previous[256];
     add_round(joined, last.0, v)
 }
 
@@ -156,6 +157,7 @@ fn strike(
         let next = out.next_value[x];
         let after = out.next_index[x];
         if dropped(marks, i) {
+            // Where the place before was struck too, the turn before has mended these two: they are read here, not earlier.
             let prev = out.previous_value[x];
             let before = out.previous_index[x];
             let key = out.key_index[x];

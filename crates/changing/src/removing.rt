@@ -39,9 +39,9 @@ pub fn remove(m: ListOrderedMultimap, k: u64) -> Removal
     let next = m.next_index;
     let root = ROUNDS + key;
     let head = next[root as usize];
-    let first = head.0 as usize;
+    let values = m.values;
+    let round = values[head.0 as usize];
     let map = crate::remove_record(m, key);
-    let round = map.values[first];
     Removal {
         map,
         answer: Got::Round(round),
@@ -80,8 +80,9 @@ pub fn remove_all(m: ListOrderedMultimap, k: u64, out: &mut [u64]) -> RemovedAll
     let next = m.next_index;
     let root = ROUNDS + key;
     let head = next[root as usize];
+    let values = m.values;
+    crate::copy_record(&values, next, head.0, count, out);
     let map = crate::remove_record(m, key);
-    crate::copy_record(&map.values, next, head.0, count, out);
     RemovedAll {
         map,
         answer: Counted::Count(n),
@@ -104,13 +105,17 @@ fn pop_at(m: ListOrderedMultimap, place: u16) -> Pop
     requires { ⌜ Round m place ⌝ }
     ensures { λ r. ⌜ PoppedAt m place (r .answer) (r .map) ⌝ }
 {
-    let struck = crate::strike(m, false, place, 1, b"");
     let x = place as usize;
-    let key = struck.key_index[x];
+    let places = m.key_index;
+    let key = places[x];
     let k = key.0 as usize;
-    let member = struck.keys[k];
-    let round = struck.values[x];
-    let n = struck.length[k];
+    let keys = m.keys;
+    let member = keys[k];
+    let values = m.values;
+    let round = values[x];
+    let struck = crate::strike(m, false, place, 1, b"");
+    let lengths = struck.length;
+    let n = lengths[k];
     if n == 0 {
         let map = crate::sweep(struck, key.0, 1);
         return Pop {
@@ -205,7 +210,8 @@ pub fn retain(m: ListOrderedMultimap, marks: &[u8]) -> Retained
     let next = m.next_value;
     let first = next[1024];
     let struck = crate::strike(m, false, first.0, held, marks);
-    let member = struck.next_key[256];
+    let next_key = struck.next_key;
+    let member = next_key[256];
     let n = struck.keys_len;
     let map = crate::sweep(struck, member.0, n as usize);
     let kept = map.values_len;

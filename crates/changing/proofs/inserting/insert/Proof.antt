@@ -53,17 +53,17 @@ mul-head c = search needs
 array-copy-out-head : tie.Need-array-copy-out-head
 array-copy-out-head c = omega (arith, fits (c .before))
 
-cast-first : tie.Need-cast-first
-cast-first c = search needs
-
-empty-record-requires : tie.Need-empty-record-requires
-empty-record-requires c κs = let f = c .before .before .before in member-known (s f .args .k) (s f .args .v) (s f .args .m) (s f .pre) (x f) (known f)
+cast-round : tie.Need-cast-round
+cast-round c = search needs
 
 mul-round : tie.Need-mul-round
 mul-round c = search needs
 
-element-copy-out-round : tie.Need-element-copy-out-round
-element-copy-out-round c = let f = c .before .before .before .before in head-fits (s f .args .m) (x f) (member-known (s f .args .k) (s f .args .v) (s f .args .m) (s f .pre) (x f) (known f))
+array-read-round : tie.Need-array-read-round
+array-read-round c = let f = c .before .before .before .before in head-fits (s f .args .m) (x f) (member-known (s f .args .k) (s f .args .v) (s f .args .m) (s f .pre) (x f) (known f))
+
+empty-record-requires : tie.Need-empty-record-requires
+empty-record-requires c κs = let f = c .before .before .before .before in member-known (s f .args .k) (s f .args .v) (s f .args .m) (s f .pre) (x f) (known f)
 
 add-round-requires : tie.Need-add-round-requires
 add-round-requires c κs = search needs
@@ -82,8 +82,8 @@ admit-requires c κs = let u = c .before .before in joins-unknown (t u .args .m)
 
 returns-3 : tie.Need-returns-3
 returns-3 c =
-    let e = c .before .before in
-    let f = e .before .before .before .before in
+    let e = c .before in
+    let f = e .before .before .before .before .before in
     insert-known (s f .args .k) (s f .args .v) (s f .args .m) (s f .pre) (x f) (known f) (e .empty-record .result) (e .empty-record .ensures) (c .add-round .result) (c .add-round .ensures)
 
 returns-4 : tie.Need-returns-4
@@ -102,10 +102,10 @@ insert-spec =
     cast-head
     mul-head
     array-copy-out-head
-    cast-first
-    empty-record-requires
+    cast-round
     mul-round
-    element-copy-out-round
+    array-read-round
+    empty-record-requires
     add-round-requires
     enum-known-found-2
     returns

@@ -69,14 +69,14 @@ mul-head c = search needs
 array-copy-out-head : tie.Need-array-copy-out-head
 array-copy-out-head c = omega (arith, fits (c .before .before .before))
 
-empty-record-requires : tie.Need-empty-record-requires
-empty-record-requires c κs = let f = c .before .before .before .before in member-known (s f .args .k) (s f .args .v) (s f .args .m) (s f .pre) (x f) (known f)
-
 copy-record-requires : tie.Need-copy-record-requires
 copy-record-requires c κs =
-    let e = c .before .before .before .before .before .before in
+    let e = c .before .before .before .before .before in
     let f = e .before .before in
     copies (s f .args .k) (s f .args .m) (s f .pre) (x f) (member-known (s f .args .k) (s f .args .v) (s f .args .m) (s f .pre) (x f) (known f)) (known f .number) (s f .args .out .now) (e .if1 .left)
+
+empty-record-requires : tie.Need-empty-record-requires
+empty-record-requires c κs = let f = c .before .before .before .before .before .before .before .before .before .before in member-known (s f .args .k) (s f .args .v) (s f .args .m) (s f .pre) (x f) (known f)
 
 add-round-requires : tie.Need-add-round-requires
 add-round-requires c κs = search needs
@@ -98,9 +98,9 @@ same-length c = search needs
 
 returns-4 : tie.Need-returns-4
 returns-4 c =
-    let w = c .before .before .before in
-    let r = w .before .before .before .before in
-    let e = r .before .before .before in
+    let r = c .before in
+    let w = r .before .before .before in
+    let e = w .before .before .before .before .before .before in
     let f = e .before .before in
     insert-all-known (s f .args .k) (s f .args .v) (s f .args .m) (s f .pre) (x f) (known f) (r .empty-record .result) (r .empty-record .ensures) (c .add-round .result) (c .add-round .ensures) (s f .args .out .now) _ (e .if1 .left)
     (w .copy-record .ensures)
@@ -126,8 +126,8 @@ insert-all-spec =
     cast-head
     mul-head
     array-copy-out-head
-    empty-record-requires
     copy-record-requires
+    empty-record-requires
     add-round-requires
     enum-known-found-2
     returns-2

@@ -57,23 +57,22 @@ mul-head c = search needs
 array-copy-out-head : tie.Need-array-copy-out-head
 array-copy-out-head c = omega (arith, fits (c .before))
 
-cast-first : tie.Need-cast-first
-cast-first c = search needs
-
-remove-record-requires : tie.Need-remove-record-requires
-remove-record-requires c κs = member (c .before .before .before) .0
+cast-round : tie.Need-cast-round
+cast-round c = search needs
 
 mul-round : tie.Need-mul-round
 mul-round c = search needs
 
-element-copy-out-round : tie.Need-element-copy-out-round
-element-copy-out-round c = let f = c .before .before .before .before in head-fits (s f .args .m) (x f) (member f .0)
+array-read-round : tie.Need-array-read-round
+array-read-round c = let f = c .before .before .before .before in head-fits (s f .args .m) (x f) (member f .0)
+
+remove-record-requires : tie.Need-remove-record-requires
+remove-record-requires c κs = member (c .before .before .before .before) .0
 
 returns-2 : tie.Need-returns-2
 returns-2 c =
-    let r = c .before in
-    let f = r .before .before .before .before in
-    removed (s f .args .k) (s f .args .m) (s f .pre) (x f) (member f .0) (member f .1) (r .remove-record .result) (r .remove-record .ensures)
+    let f = c .before .before .before .before .before in
+    removed (s f .args .k) (s f .args .m) (s f .pre) (x f) (member f .0) (member f .1) (c .remove-record .result) (c .remove-record .ensures)
 
 pub remove-spec : {M : Type 1} → statement M
 remove-spec =
@@ -87,8 +86,8 @@ remove-spec =
     cast-head
     mul-head
     array-copy-out-head
-    cast-first
-    remove-record-requires
+    cast-round
     mul-round
-    element-copy-out-round
+    array-read-round
+    remove-record-requires
     returns-2)

@@ -75,25 +75,24 @@ mul-head c = search needs
 array-copy-out-head : tie.Need-array-copy-out-head
 array-copy-out-head c = omega (arith, fits (c .before .before .before))
 
-remove-record-requires : tie.Need-remove-record-requires
-remove-record-requires c κs = member (c .before .before .before .before) .0
-
 copy-record-requires : tie.Need-copy-record-requires
 copy-record-requires c κs =
-    let e = c .before .before .before .before .before .before in
+    let e = c .before .before .before .before .before in
     let f = e .before .before in
     copies (s f .args .k) (s f .args .m) (s f .pre) (x f) (member f .0) (member f .1) (s f .args .out .now) (e .if1 .left)
+
+remove-record-requires : tie.Need-remove-record-requires
+remove-record-requires c κs = member (c .before .before .before .before .before .before .before .before .before .before) .0
 
 same-length : tie.Need-same-length
 same-length c = search needs
 
 returns-3 : tie.Need-returns-3
 returns-3 c =
-    let w = c .before .before in
-    let r = w .before .before .before .before in
-    let e = r .before .before .before in
+    let w = c .before .before .before in
+    let e = w .before .before .before .before .before .before in
     let f = e .before .before in
-    removed-all (s f .args .k) (s f .args .m) (s f .pre) (x f) (member f .0) (member f .1) (r .remove-record .result) (r .remove-record .ensures) (s f .args .out .now) _ (e .if1 .left)
+    removed-all (s f .args .k) (s f .args .m) (s f .pre) (x f) (member f .0) (member f .1) (c .remove-record .result) (c .remove-record .ensures) (s f .args .out .now) _ (e .if1 .left)
     (w .copy-record .ensures)
 
 pub remove-all-spec : {M : Type 1} → statement M
@@ -113,7 +112,7 @@ remove-all-spec =
     cast-head
     mul-head
     array-copy-out-head
-    remove-record-requires
     copy-record-requires
+    remove-record-requires
     same-length
     returns-3)

@@ -35,15 +35,15 @@ strike-requires c κs =
     let s = e .before .before .before in
     all-stretch (s .args .marks .now) (s .args .m) (s .pre) (e .if1 .left)
 
-element-copy-out-member : tie.Need-element-copy-out-member
-element-copy-out-member c = search needs
+array-copy-out-member : tie.Need-array-copy-out-member
+array-copy-out-member c = search needs
 
 cast-sweep : tie.Need-cast-sweep
 cast-sweep c = search needs
 
 sweep-requires : tie.Need-sweep-requires
 sweep-requires c κs =
-    let o = c .before in
+    let o = c .before .before in
     let f = o .before .before .before in
     let e = f .before .before in
     let s = e .before .before .before in
@@ -51,7 +51,7 @@ sweep-requires c κs =
 
 returns-3 : tie.Need-returns-3
 returns-3 c =
-    let o = c .before .before in
+    let o = c .before .before .before in
     let f = o .before .before .before in
     let e = f .before .before in
     let s = e .before .before .before in
@@ -68,7 +68,7 @@ retain-spec =
     returns-2
     array-copy-out-first
     strike-requires
-    element-copy-out-member
+    array-copy-out-member
     cast-sweep
     sweep-requires
     returns-3)
