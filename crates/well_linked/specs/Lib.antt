@@ -1,0 +1,3 @@
+-- What the contracts of `well_linked` cite.
+pub mod Marks
+pub mod Chains
