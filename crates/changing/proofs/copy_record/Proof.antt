@@ -6,8 +6,6 @@ use lib.ListN.{length}
 use Rattle.changing.proofs.Copies.{Copied, copied-none, copied-all, copied-long, copied-one, place-fits, slot-fits}
 use Rattle.changing.proofs.copy_record.Statement.{statement}
 use Rattle.changing.proofs.copy_record.Tie as tie
-use Rattle.changing.proofs.copy_record.Reads as reads
-use Rattle.changing.proofs.copy_record.Lts as lts
 
 abbrev Inv-loop : tie.InvT-loop
 Inv-loop values head n out₀ next place₀ i₀ out place i = Copied values next head n out₀ i place out

@@ -7,36 +7,17 @@ use Rattle.links.specs.Path.{count}
 use Rattle.links.specs.Places.{order}
 use Rattle.multimap.specs.Map.{at, membersOf}
 use Rattle.multimap.specs.declared.ListOrderedMultimap.{ListOrderedMultimap}
-use Rattle.multimap.proofs.Stores.{Sized, unmapped}
+use Rattle.multimap.proofs.Sizes.{sized}
 use Rattle.changing.specs.Sweep.{Sweepable}
 use Rattle.changing.proofs.Sweeps.{Passing, passing-none, passing-all, passing-kept, passing-left, q-in, shut-gap, Bounds, bounds}
 use Rattle.changing.proofs.sweep.Statement.{statement}
 use Rattle.changing.proofs.sweep.Tie as tie
-use Rattle.changing.proofs.sweep.Reads as reads
-use Rattle.changing.proofs.sweep.Lts as lts
-use Rattle.index.proofs.remove.Reads as remove-reads
 
 abbrev Inv-loop : tie.InvT-loop
 Inv-loop start turns keys out₀ at₀ i₀ out at i = (h : Sweepable out₀ start turns) → Passing out₀ start turns h i at out
 
 abbrev μ-loop : tie.MeasureT-loop
 μ-loop start turns keys out₀ at₀ i₀ out at i = turns - i
-
-sized : (c : tie.Start Inv-loop μ-loop) → Sized (c .args .m)
-sized c =
-    record {
-      keys = search needs;
-      lengths = search needs;
-      next-key = search unmapped;
-      previous-key = search unmapped;
-      values = search needs;
-      key-index = search unmapped;
-      next-value = search unmapped;
-      previous-value = search unmapped;
-      next-index = search unmapped;
-      previous-index = search unmapped;
-      index = search needs;
-    }
 
 module _ (l : tie.In-loop Inv-loop μ-loop) where
   abbrev s : tie.Start Inv-loop μ-loop
@@ -65,7 +46,7 @@ abbrev removed : tie.After-struct-known Inv-loop μ-loop → tie.In-loop Inv-loo
 removed c = empty-one (c .before .before .before .before .before .before)
 
 loop-holds : tie.Need-loop-holds Inv-loop μ-loop
-loop-holds c = λ h. passing-none (c .before .args .m) (c .before .args .start) (c .before .args .turns) h (sized (c .before))
+loop-holds c = λ h. passing-none (c .before .args .m) (c .before .args .start) (c .before .args .turns) h (sized (c .before .args .m) (c .before .good .0))
 
 cast-x : tie.Need-cast-x Inv-loop μ-loop
 cast-x c = let b = fits c in record { fits = omega arith }

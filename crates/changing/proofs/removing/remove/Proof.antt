@@ -9,10 +9,6 @@ use Rattle.changing.proofs.Records.{key-fits, head-fits}
 use Rattle.changing.proofs.Removes.{found, found-none, removed-none, removed}
 use Rattle.changing.proofs.removing.remove.Statement.{statement}
 use Rattle.changing.proofs.removing.remove.Tie as tie
-use Rattle.changing.proofs.removing.remove.Reads as reads
-use Rattle.changing.proofs.removing.remove.Lts as lts
-use Rattle.changing.proofs.remove_record.Reads as remove-record-reads
-use Rattle.index.proofs.find.Reads as find-reads
 
 abbrev entry : tie.After-find → tie.Start
 entry c = c .before .before .before .before .before

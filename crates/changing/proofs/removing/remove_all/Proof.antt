@@ -9,11 +9,6 @@ use Rattle.changing.proofs.Records.{key-fits}
 use Rattle.changing.proofs.Removes.{found, found-none, removed-all-none, removed-all-short, copies, removed-all}
 use Rattle.changing.proofs.removing.remove_all.Statement.{statement}
 use Rattle.changing.proofs.removing.remove_all.Tie as tie
-use Rattle.changing.proofs.removing.remove_all.Reads as reads
-use Rattle.changing.proofs.removing.remove_all.Lts as lts
-use Rattle.changing.proofs.copy_record.Reads as copy-record-reads
-use Rattle.changing.proofs.remove_record.Reads as remove-record-reads
-use Rattle.index.proofs.find.Reads as find-reads
 
 abbrev entry : tie.After-find → tie.Start
 entry c = c .before .before .before .before .before .before
