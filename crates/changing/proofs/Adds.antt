@@ -12,13 +12,12 @@ use Rattle.links.specs.Path.{pick, count}
 use Rattle.links.specs.Places.{put, order, vacancy}
 use Rattle.links.specs.Links.{Links, Chained, recordIn, added}
 use Rattle.links.proofs.Puts.{put-hit, put-miss}
-use Rattle.links.proofs.Lists.{in-array, vacancy-fits, length-order}
+use Rattle.links.proofs.Lists.{in-array, first-fits, last-fits, vacancy-fits, length-order}
 use Rattle.links.proofs.Chains.{added-order, added-off, added-chained, added-some, tail-fits, size-in}
 use Rattle.multimap.specs.Map.{at, keyAt, valueAt, pairAt, pairs, members, roundsOf, membersOf, linksOf}
 use Rattle.multimap.specs.declared.ListOrderedMultimap.{ListOrderedMultimap}
 use Rattle.multimap.proofs.Stores.{at-set, key-set, value-set₂, Sized, places-eq, links-eq, map-same, map-append}
 use Rattle.changing.specs.Adding.{Open, AddedTo}
-use Rattle.changing.proofs.Joins.{ends-fit}
 
 module _ (m : ListOrderedMultimap) (key : ℕ) (g : Open m key) where
   -- where the stores go
@@ -26,7 +25,7 @@ module _ (m : ListOrderedMultimap) (key : ℕ) (g : Open m key) where
   key-fits = in-array (membersOf m) (g .chained .members) key (g .here)
 
   pub rounds-ends : (valueAt (m .«next_value») 1024 ≤ 1024) × (valueAt (m .«previous_value») 1024 ≤ 1024)
-  rounds-ends = ends-fit (roundsOf m) (g .chained .rounds)
+  rounds-ends = (first-fits (roundsOf m) (g .chained .rounds), last-fits (roundsOf m) (g .chained .rounds))
 
   pub tail-in : valueAt (m .«previous_index») (1024 + key) < 1280
   tail-in = tail-fits (linksOf m) (g .chained) key 256 (g .here) key-fits

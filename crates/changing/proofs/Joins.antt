@@ -11,7 +11,7 @@ use Rattle.links.specs.Path.{pick, count}
 use Rattle.links.specs.Places.{Places, Linked, put, order, vacancy}
 use Rattle.links.specs.Links.{Links, Chained, recordIn, joined}
 use Rattle.links.proofs.Paths.{same-or-not, count-append, count-same, count-other}
-use Rattle.links.proofs.Lists.{length-order, vacancy-fits, first-in, last-in, at-most-root}
+use Rattle.links.proofs.Lists.{length-order, vacancy-fits, first-fits, last-fits}
 use Rattle.links.proofs.Chains.{joined-order, joined-off, joined-chained}
 use Rattle.index.specs.Table.{Holds}
 use Rattle.index.proofs.Table.{reread, relist}
@@ -22,12 +22,9 @@ use Rattle.multimap.specs.declared.ListOrderedMultimap.{ListOrderedMultimap}
 use Rattle.multimap.proofs.Stores.{at-set, key-set₂, value-set, Sized, places-eq, links-eq, map-same, map-append, mem-count, count-mem}
 use Rattle.changing.specs.Adding.{Open, Joins, Joined, lastKey}
 
--- where the stores go: the first place and the last of a list, or its end
-pub ends-fit : (l : Places) → Linked l → (l .next (l .root) ≤ l .root) × (l .prev (l .root) ≤ l .root)
-ends-fit l g = (at-most-root l g (l .next (l .root)) (first-in l g), at-most-root l g (l .prev (l .root)) (last-in l g))
-
+-- where the stores go
 pub members-ends : (m : ListOrderedMultimap) (k p : ℕ) → Joins m k p → (keyAt (m .«next_key») 256 ≤ 256) × (keyAt (m .«previous_key») 256 ≤ 256)
-members-ends m k p h = ends-fit (membersOf m) (h .linked .chained .members)
+members-ends m k p h = (first-fits (membersOf m) (h .linked .chained .members), last-fits (membersOf m) (h .linked .chained .members))
 
 pub new-key-fits : (m : ListOrderedMultimap) (k p key : ℕ) → Joins m k p → key ≡ vacancy (membersOf m) → key < 256
 new-key-fits m k p key h is = rw is (vacancy-fits (membersOf m) (h .linked .chained .members) (h .spare))

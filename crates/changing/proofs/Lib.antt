@@ -1,10 +1,9 @@
 pub mod Joins
 pub mod Adds
 pub mod Posts
-pub mod Lists
+pub mod Stretches
 pub mod Turns
 pub mod Sweeps
-pub mod Copies
 pub mod Settle
 pub mod Records
 pub mod Removes

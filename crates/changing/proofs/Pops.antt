@@ -2,7 +2,7 @@
 use Prim.Native.Nat.{ℕ, suc, _-_, _<_}
 use mathlib.Core.Path.{_≡_, refl, sym, ap, _∙_, subst, fun-ext}
 use mathlib.Core.Logic.{_≢_, ⊎-elim}
-use mathlib.Core.Bool.{Bool, true, false, cond, not, _&&_, _||_}
+use mathlib.Core.Bool.{Bool, true, false, cond, not, _&&_, _||_, Bool·not-not}
 use mathlib.Core.List.{List, [], _∷_, _++_, map, append-nil, dropLast}
 use mathlib.Core.Option.{some}
 use native.Mathlib.Omega.{arith}
@@ -15,22 +15,22 @@ use Rattle.steps.specs.Call.{Call, popped, none, pop-front, pop-back}
 use Rattle.steps.specs.Step.{step, checks, act, say}
 use Rattle.steps.specs.Trace.{Does}
 use Rattle.steps.proofs.Doing.{packs, does-stay, does-change}
-use Rattle.steps.proofs.Filter.{any-append}
-use Rattle.links.specs.Path.{count, keep, without, walk}
+use Rattle.steps.proofs.Filter.{filter-fuse, any-append}
+use Rattle.links.specs.Path.{count, keep, without, strip, walk}
 use Rattle.links.specs.Places.{order}
 use Rattle.links.specs.Links.{recordIn, recordOf}
-use Rattle.links.proofs.Paths.{same-or-not, keep-all, keep-inside, count-same, count-append, Split, split-at, without-split, path-end}
-use Rattle.links.proofs.Lists.{in-array, order-once, length-order}
+use Rattle.links.proofs.Paths.{same-or-not, keep-all, keep-inside, count-same, count-append, Split, split-at, path-end}
+use Rattle.links.proofs.Lists.{in-array, order-without, length-order}
+use Rattle.links.proofs.Bare.{bare-order}
 use Rattle.multimap.specs.Map.{at, keyAt, valueAt, pairAt, pairs, members, roundsOf, membersOf, linksOf, stateOf}
 use Rattle.multimap.specs.WellLinked.{WellLinked, linked}
 use Rattle.multimap.specs.declared.ListOrderedMultimap.{ListOrderedMultimap}
-use Rattle.multimap.proofs.Stores.{length-pairs, map-append}
-use Rattle.changing.specs.Strike.{strip, Stretch, Struck, Round}
+use Rattle.multimap.proofs.Stores.{map-append}
+use Rattle.changing.specs.Strike.{Stretch, Struck, RoundPlace}
 use Rattle.changing.specs.Sweep.{idle, Sweepable, Swept}
 use Rattle.changing.specs.RemovingAnswer.{poppedOf, rest, PoppedAt}
 use Rattle.changing.specs.declared.removing.Popped.{Popped}
 use Rattle.changing.specs.declared.removing.Popped.the-variants as P
-use Rattle.changing.proofs.Lists.{filter-fuse}
 use Rattle.changing.proofs.Settle.{has-size, still, size-o, struck-sound, settled-well, settled-state, all-have, cover-one}
 
 -- ---- the state
@@ -62,16 +62,12 @@ off s p ps all h = ap (λ (l : List ℕ). record { pairs = ps; members = l; take
 
 -- ---- the round in the place x leaves
 
-not-not : (b : Bool) → not (not b) ≡ b
-not-not true = refl
-not-not false = refl
-
 or-swap : (a b c : Bool) → (a || (b || c)) ≡ (b || (a || c))
 or-swap true true c = refl
 or-swap true false c = refl
 or-swap false b c = refl
 
-module _ (m : ListOrderedMultimap) (x : ℕ) (h : Round m x) where
+module _ (m : ListOrderedMultimap) (x : ℕ) (h : RoundPlace m x) where
   abbrev g : WellLinked m
   g = h .linked
 
@@ -94,8 +90,7 @@ module _ (m : ListOrderedMultimap) (x : ℕ) (h : Round m x) where
   others-have j =
       let p : Split x vs = split-at x vs (h .inside) in
       let f : ℕ → Pair = pairAt m in
-      let w : without x vs ≡ p .front ++ p .back =
-      ap (without x) (p .whole) ∙ without-split x (p .front) (p .back) (λ q. omega (arith, order-once (roundsOf m) (g .chained .rounds) q, ap (count q) (p .whole))) in
+      let w : without x vs ≡ p .front ++ p .back = order-without (roundsOf m) (g .chained .rounds) (p .front) x (p .back) (p .whole) in
       ap (λ (l : List ℕ). has j (map f l)) (p .whole) ∙ ap (has j) (map-append f (p .front) (x ∷ p .back)) ∙ any-append (of j) (map f (p .front)) (map f (x ∷ p .back))
       ∙ or-swap (has j (map f (p .front))) (of j (f x)) (has j (map f (p .back)))
       ∙ ap (λ (b : Bool). of j (f x) || b)
@@ -131,7 +126,7 @@ module _ (m : ListOrderedMultimap) (x : ℕ) (h : Round m x) where
     gone =
         let z : has (at (m .keys) K) (map (pairAt m) (order (roundsOf o))) ≡ not (eqb (at (o .length) K) 0) =
         has-size m g K K-in (order (roundsOf o)) (still m g (x ∷ []) o s) ∙ ap (λ (n : ℕ). not (eqb n 0)) (sym (size-o m g (x ∷ []) o s K K-in)) in
-        sym (not-not (eqb (at (o .length) K) 0))
+        sym (Bool·not-not (eqb (at (o .length) K) 0))
         ∙ ap not (sym z ∙ ap (λ (l : List _). has (at (m .keys) (keyAt l x)) (map (pairAt m) (order (roundsOf o)))) (s .kept .key-index) ∙ ap (λ (l : List ℕ). has (pairAt m x .key) (map (pairAt m) l)) (s .left))
 
     -- whichever members have left, so that those with a round are there
@@ -196,11 +191,7 @@ step-back-none s e = rw e
 
 module _ (m : ListOrderedMultimap) (g : WellLinked m) where
   no-pairs : m .«values_len» ≡ 0 → pairs m ≡ []
-  no-pairs e = go (pairs m) (length-pairs m ∙ e)
-    where
-      go : (l : List Pair) → length l ≡ 0 → l ≡ []
-      go [] u = refl
-      go (p ∷ l) u = absurd (omega arith)
+  no-pairs e = ap (map (pairAt m)) (bare-order (roundsOf m) e)
 
   pub front-none : m .«values_len» ≡ 0 → Does linked pop-front m (say none) m
   front-none e = does-stay linked pop-front m (say none) refl g (step-front-none (stateOf m) (no-pairs e))
@@ -219,10 +210,7 @@ module _ (m : ListOrderedMultimap) (g : WellLinked m) where
     abbrev ws : List ℕ
     ws = order (roundsOf m)
 
-    once : (xs ys : List ℕ) (x : ℕ) → order (roundsOf m) ≡ xs ++ x ∷ ys → without x ws ≡ xs ++ ys
-    once xs ys x e = ap (without x) e ∙ without-split x xs ys (λ q. omega (arith, order-once (roundsOf m) (g .chained .rounds) q, ap (count q) e))
-
-    inside : (xs ys : List ℕ) (x : ℕ) → order (roundsOf m) ≡ xs ++ x ∷ ys → Round m x
+    inside : (xs ys : List ℕ) (x : ℕ) → order (roundsOf m) ≡ xs ++ x ∷ ys → RoundPlace m x
     inside xs ys x e = record { linked = g; inside = omega (arith, ap (count x) e, count-append x xs (x ∷ ys), count-same x ys) }
 
     -- the first
@@ -235,11 +223,11 @@ module _ (m : ListOrderedMultimap) (g : WellLinked m) where
     front : ws ≡ x ∷ ys
     front = let e : m .«values_len» ≡ suc (m .«values_len» - 1) = omega arith in ap (walk (valueAt (m .«next_value»)) x) e
 
-    pub front-round : Round m (valueAt (m .«next_value») 1024)
+    pub front-round : RoundPlace m (valueAt (m .«next_value») 1024)
     front-round = inside [] ys x front
 
     pub front-popped : (a : Popped) (r : ListOrderedMultimap) → PoppedAt m (valueAt (m .«next_value») 1024) a r → Does linked pop-front m (say (poppedOf a)) r
-    front-popped = popped-so pop-front refl x (step-front (stateOf m) (pairAt m x) (rest m x) (ap (map (pairAt m)) (front ∙ ap (λ (l : List ℕ). x ∷ l) (sym (once [] ys x front)))))
+    front-popped = popped-so pop-front refl x (step-front (stateOf m) (pairAt m x) (rest m x) (ap (map (pairAt m)) (front ∙ ap (λ (l : List ℕ). x ∷ l) (sym (order-without (roundsOf m) (g .chained .rounds) [] x ys front)))))
 
     -- the last
     abbrev z : ℕ
@@ -248,11 +236,11 @@ module _ (m : ListOrderedMultimap) (g : WellLinked m) where
     back : (xs : List ℕ) × (ws ≡ xs ++ z ∷ [])
     back = path-end (valueAt (m .«next_value»)) (valueAt (m .«previous_value»)) 1024 ws 1024 (g .chained .rounds .path) (omega (arith, length-order (roundsOf m)))
 
-    pub back-round : Round m (valueAt (m .«previous_value») 1024)
+    pub back-round : RoundPlace m (valueAt (m .«previous_value») 1024)
     back-round = inside (back .0) [] z (back .1)
 
     pub back-popped : (a : Popped) (r : ListOrderedMultimap) → PoppedAt m (valueAt (m .«previous_value») 1024) a r → Does linked pop-back m (say (poppedOf a)) r
     back-popped =
         popped-so pop-back refl z
         (step-back (stateOf m) (pairAt m z) (rest m z)
-        (ap (map (pairAt m)) (back .1 ∙ ap (λ (l : List ℕ). l ++ z ∷ []) (sym (once (back .0) [] z (back .1) ∙ append-nil (back .0)))) ∙ map-append (pairAt m) (without z ws) (z ∷ [])))
+        (ap (map (pairAt m)) (back .1 ∙ ap (λ (l : List ℕ). l ++ z ∷ []) (sym (order-without (roundsOf m) (g .chained .rounds) (back .0) z [] (back .1) ∙ append-nil (back .0)))) ∙ map-append (pairAt m) (without z ws) (z ∷ [])))

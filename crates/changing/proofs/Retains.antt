@@ -15,17 +15,17 @@ use Rattle.steps.specs.Call as C
 use Rattle.steps.specs.Step.{step, checks, act, say}
 use Rattle.steps.specs.Trace.{Does}
 use Rattle.steps.proofs.Doing.{does-refuse, does-change}
-use Rattle.links.specs.Path.{pick, count, keep}
+use Rattle.links.specs.Path.{pick, count, keep, strip}
 use Rattle.links.specs.Places.{order}
 use Rattle.links.proofs.Paths.{same-or-not, count-same, count-other, Once, keep-same}
-use Rattle.links.proofs.Lists.{order-once, length-order}
+use Rattle.links.proofs.Lists.{order-distinct, length-order}
+use Rattle.links.proofs.Strips.{strip-keep, strip-those}
 use Rattle.multimap.specs.Map.{at, keyAt, valueAt, pairAt, pairs, roundsOf, membersOf, stateOf}
 use Rattle.multimap.specs.WellLinked.{WellLinked, linked}
 use Rattle.multimap.specs.declared.ListOrderedMultimap.{ListOrderedMultimap}
 use Rattle.multimap.proofs.Stores.{length-pairs}
-use Rattle.changing.specs.Strike.{chosen, strip, visited, Stretch, Struck}
+use Rattle.changing.specs.Strike.{chosen, visited, Stretch, Struck}
 use Rattle.changing.specs.Sweep.{idle, Sweepable, Swept}
-use Rattle.changing.proofs.Lists.{strip-keep, strip-those}
 use Rattle.changing.proofs.Settle.{struck-sound, settled-well, settled-state}
 
 -- ---- the lists
@@ -134,7 +134,7 @@ module _ (ms : List ℕ) (m : ListOrderedMultimap) (g : WellLinked m) where
       pairs-left : map (pairAt m) (order (roundsOf o)) ≡ kept ms (pairs m)
       pairs-left =
           ap (map (pairAt m)) (s .left)
-          ∙ kept-map (pairAt m) ms vs (λ q. omega (arith, order-once (roundsOf m) (g .chained .rounds) q)) (long ∙ sym (length-order (roundsOf m))) fine
+          ∙ kept-map (pairAt m) ms vs (order-distinct (roundsOf m) (g .chained .rounds)) (long ∙ sym (length-order (roundsOf m))) fine
 
       module _ (r : ListOrderedMultimap) (w : Swept o (idle o (keyAt (o .«next_key») 256) (o .«keys_len»)) r) where
         abbrev us : List ℕ

@@ -10,35 +10,26 @@ use lib.Dec.{eqb}
 use lib.ListN.{length}
 use Rattle.steps.specs.Lists.{filter}
 use Rattle.steps.specs.State.{has, of, keep as keeping}
-use Rattle.links.specs.Path.{pick, count, keep}
+use Rattle.links.specs.Path.{pick, count, keep, strip}
 use Rattle.links.specs.Places.{Places, order}
 use Rattle.links.specs.Links.{recordOf, recordIn}
-use Rattle.links.proofs.Paths.{same-or-not, count-same, count-hit, count-other, keep-same, count-keep}
+use Rattle.links.proofs.Paths.{same-or-not, count-same, count-hit, count-other, keep-all, keep-same, count-keep}
+use Rattle.links.proofs.Strips.{strip-keep}
 use Rattle.index.specs.Table.{Holds}
 use Rattle.multimap.specs.Map.{at, keyAt, pairAt, pairs, members, roundsOf, membersOf, linksOf, stateOf}
 use Rattle.multimap.specs.WellLinked.{WellLinked}
 use Rattle.multimap.specs.declared.ListOrderedMultimap.{ListOrderedMultimap}
-use Rattle.multimap.proofs.Stores.{count-mem}
-use Rattle.changing.specs.Strike.{strip, Struck}
+use Rattle.multimap.proofs.Records.{filter-map, same-number}
+use Rattle.changing.specs.Strike.{Struck}
 use Rattle.changing.specs.Sweep.{Sound, Swept}
-use Rattle.changing.proofs.Lists.{filter-map, strip-keep}
-
--- two places of members have one number where they are one place
-pub same-number : (t keys ks : List ℕ) → Holds t keys ks → (j k : ℕ) → 0 < count j ks → 0 < count k ks → eqb (at keys k) (at keys j) ≡ eqb j k
-same-number t keys ks h j k i l =
-    ⊎-elim (λ (e : j ≡ k). eq-eqb _ _ (ap (at keys) (sym e)) ∙ sym (eq-eqb _ _ e))
-    (λ (e : j ≢ k). ne-eqb _ _ (λ u. e (h .distinct _ _ (count-mem j ks i) (count-mem k ks l) (sym u))) ∙ sym (ne-eqb _ _ e)) (same-or-not j k)
 
 -- a member has a pair exactly where its record has a place
 module _ (m : ListOrderedMultimap) (g : WellLinked m) (k : ℕ) (i : 0 < count k (order (membersOf m))) where
-  pub same-member : (q : ℕ) → 0 < count (keyAt (m .«key_index») q) (order (membersOf m)) → of (at (m .keys) k) (pairAt m q) ≡ eqb (keyAt (m .«key_index») q) k
-  same-member q j = same-number (m .index) (m .keys) (order (membersOf m)) (g .index) (keyAt (m .«key_index») q) k j i
-
   pub has-size : (vs : List ℕ) → ((q : ℕ) → 0 < count q vs → 0 < count (keyAt (m .«key_index») q) (order (membersOf m)))
       → has (at (m .keys) k) (map (pairAt m) vs) ≡ not (eqb (length (recordOf (keyAt (m .«key_index»)) k vs)) 0)
   has-size [] h = sym (ap not (eq-eqb 0 0 refl))
   has-size (v ∷ vs) h =
-      ap (λ (b : Bool). b || has (at (m .keys) k) (map (pairAt m) vs)) (same-member v (h v (rw count-same (omega arith))))
+      ap (λ (b : Bool). b || has (at (m .keys) k) (map (pairAt m) vs)) (same-number (m .index) (m .keys) (order (membersOf m)) (g .index) (keyAt (m .«key_index») v) k (h v (rw count-same (omega arith))) i)
       ∙ go (eqb (keyAt (m .«key_index») v) k) (has-size vs (λ q j. h q (omega arith)))
     where
       go : (b : Bool) → has (at (m .keys) k) (map (pairAt m) vs) ≡ not (eqb (length (recordOf (keyAt (m .«key_index»)) k vs)) 0)
@@ -113,12 +104,8 @@ module _ (m : ListOrderedMultimap) (g : WellLinked m) (ws : List ℕ) (o : ListO
 pub all-have : (m : ListOrderedMultimap) → WellLinked m → filter (λ n. has n (pairs m)) (members m) ≡ members m
 all-have m g =
     filter-map (λ n. has n (pairs m)) (at (m .keys)) (order (membersOf m))
-    ∙ ap (map (at (m .keys))) (all (order (membersOf m)) (λ k i. has-size m g k i (order (roundsOf m)) (g .chained .keys)
+    ∙ ap (map (at (m .keys))) (keep-all (λ k. has (at (m .keys) k) (pairs m)) (order (membersOf m)) (λ k i. has-size m g k i (order (roundsOf m)) (g .chained .keys)
     ∙ ap not (ne-eqb (length (recordIn (linksOf m) k)) 0 (λ e. omega (arith, g .some k i, e)))))
-  where
-    all : (xs : List ℕ) → ((k : ℕ) → 0 < count k xs → has (at (m .keys) k) (pairs m) ≡ true) → keep (λ k. has (at (m .keys) k) (pairs m)) xs ≡ xs
-    all [] h = refl
-    all (x ∷ xs) h = rw (h x (rw count-same (omega arith))) (ap (λ (l : List ℕ). x ∷ l) (all xs (λ k i. h k (omega arith))))
 
 -- of the members only k may be left without a round: it is the one that leaves
 pub cover-one : (size : ℕ → ℕ) (k : ℕ) (ks : List ℕ) → ((j : ℕ) → 0 < count j ks → j ≢ k → size j ≢ 0)

@@ -9,12 +9,11 @@ use native.Mathlib.Numerals.{add-one}
 use borrow.Author.Tests.{eq-eqb, ne-eqb}
 use lib.Dec.{eqb}
 use lib.ListN.{length, getD, set, drop, length-set, drop-of-length-le}
-use lib.Seq.{drop-cons, append-snoc}
-use Rattle.links.specs.Path.{pick, count, keep, without, Path}
+use Rattle.links.specs.Path.{pick, count, keep, without, strip, Path}
 use Rattle.links.specs.Places.{order}
 use Rattle.links.specs.Links.{Links, recordIn, Chained, parted}
-use Rattle.links.proofs.Paths.{count-append, count-same, count-in, without-split, length-keep, path-split, path-start}
-use Rattle.links.proofs.Lists.{length-walk, length-order, order-once, in-array, at-most-root, next-in, prev-in}
+use Rattle.links.proofs.Paths.{count-append, count-same, count-in, length-keep, path-split, path-start}
+use Rattle.links.proofs.Lists.{length-walk, length-order, order-without, in-array, at-most-root, next-in, prev-in}
 use Rattle.links.proofs.Chains.{of-without, in-without, parted-chained, parted-order}
 use Rattle.index.specs.Table.{Holds, Removed}
 use Rattle.index.specs.Table as T
@@ -23,8 +22,7 @@ use Rattle.index.proofs.Without.{without-mem, mem-without}
 use Rattle.multimap.specs.Map.{at, keyAt, membersOf, linksOf}
 use Rattle.multimap.specs.declared.ListOrderedMultimap.{ListOrderedMultimap}
 use Rattle.multimap.proofs.Stores.{key-set, key-set₂, Sized, places-eq, links-eq, mem-count, count-mem}
-use Rattle.changing.specs.Strike.{strip}
-use Rattle.changing.proofs.Lists.{first-of}
+use Rattle.changing.proofs.Stretches.{first-of, at-next, split-next, split-past}
 use Rattle.changing.specs.Sweep.{passed, idle, Sound, Sweepable, MembersOnly, Swept}
 
 -- ---- the stores of a turn
@@ -180,14 +178,14 @@ module _ (m : ListOrderedMultimap) (start turns : ℕ) (h : Sweepable m start tu
       abbrev ds : List ℕ
       ds = drop (suc i) vs
 
+      more : i < length vs
+      more = omega (arith, long)
+
       ahead : drop i vs ≡ q ∷ ds
-      ahead =
-          let a : drop i vs ≡ getD vs i 0 ∷ ds = drop-cons vs i 0 (omega (arith, long)) in
-          let b : q ≡ getD vs i 0 = t .here e ∙ rw a in
-          a ∙ ap (λ (y : ℕ). y ∷ ds) (sym b)
+      ahead = at-next vs (h .back) i q 256 more (t .here e)
 
       split : order (membersOf o) ≡ t .front ++ q ∷ (ds ++ h .back)
-      split = t .whole ∙ ap (λ (l : List ℕ). t .front ++ (l ++ h .back)) ahead
+      split = split-next vs (h .back) i q 256 more (t .here e) (t .front) (order (membersOf o)) (t .whole)
 
       pub q-in : 0 < count q (order (membersOf o))
       q-in = omega (arith, ap (count q) split, count-append q (t .front) (q ∷ (ds ++ h .back)), count-same q (ds ++ h .back))
@@ -212,7 +210,7 @@ module _ (m : ListOrderedMultimap) (start turns : ℕ) (h : Sweepable m start tu
             sound = t .sound;
             kept = t .kept;
             front = t .front ++ q ∷ [];
-            whole = rw (add-one i) (split ∙ sym (append-snoc (t .front) q (ds ++ h .back)));
+            whole = split-past vs (h .back) i q 256 more (t .here e) (t .front) (order (membersOf o)) (t .whole);
             here = λ z. rw (add-one i) next-q;
             rest = rw (add-one i) (t .rest ∙ choice false (ne-eqb (at (m .length) q) 0 (λ v. u (size-q ∙ v))));
           }
@@ -238,9 +236,7 @@ module _ (m : ListOrderedMultimap) (start turns : ℕ) (h : Sweepable m start tu
                 taken = t .kept .taken;
               };
               front = t .front;
-              whole =
-                  rw (add-one i)
-                  (gone ∙ ap (without q) split ∙ without-split q (t .front) (ds ++ h .back) (λ y. omega (arith, order-once (membersOf o) (t .sound .chained .members) y, ap (count y) split)));
+              whole = rw (add-one i) (gone ∙ order-without (membersOf o) (t .sound .chained .members) (t .front) q (ds ++ h .back) split);
               here = λ z. rw (add-one i) next-q;
               rest = rw (add-one i) (t .rest ∙ choice true (eq-eqb (at (m .length) q) 0 (sym size-q ∙ u)) ∙ ap (strip (keep f ds)) (sym gone));
             }

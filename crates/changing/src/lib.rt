@@ -16,7 +16,7 @@ ghost use lib.ListN.{getD};
 ghost use Rattle.steps.specs.Step.{over};
 ghost use Rattle.multimap.specs.Map.{at, valueAt};
 ghost use Rattle.changing.specs.Copy.{Copies};
-ghost use Rattle.changing.specs.Strike.{chosen, visited, Stretch, Struck, Member, Emptied};
+ghost use Rattle.changing.specs.Strike.{chosen, visited, Stretch, Struck, MemberPlace, Emptied};
 ghost use Rattle.changing.specs.Sweep.{idle, Sweepable, Swept, RecordRemoved};
 
 pub mod adding;
@@ -210,7 +210,7 @@ fn sweep(m: ListOrderedMultimap, start: u16, turns: usize) -> ListOrderedMultima
 
 // The map without the rounds of the member place `key`. The member stays, in its place of the list.
 fn empty_record(m: ListOrderedMultimap, key: u16) -> ListOrderedMultimap
-    requires { ⌜ Member m key ⌝ }
+    requires { ⌜ MemberPlace m key ⌝ }
     ensures { λ r. ⌜ Emptied m key r ⌝ }
 {
     let next = m.next_index;
@@ -223,7 +223,7 @@ fn empty_record(m: ListOrderedMultimap, key: u16) -> ListOrderedMultimap
 
 // The map without the member in the place `key` and its rounds.
 fn remove_record(m: ListOrderedMultimap, key: u16) -> ListOrderedMultimap
-    requires { ⌜ Member m key ⌝ }
+    requires { ⌜ MemberPlace m key ⌝ }
     ensures { λ r. ⌜ RecordRemoved m key r ⌝ }
 {
     let emptied = empty_record(m, key);
