@@ -1,12 +1,12 @@
 -- The steps of `insert` and `insert_all`. Assumes nothing.
-use Prim.Native.Nat.{ℕ, _+_, _≤_, _<_, min}
+use Prim.Native.Nat.{ℕ, _+_, _≤_, _<_}
 use mathlib.Core.Path.{_≡_, refl, sym, ap, _∙_}
 use mathlib.Core.Bool.{true, false}
-use mathlib.Core.List.{List, [], _∷_, _++_, map}
+use mathlib.Core.List.{List, map}
 use borrow.Author.Tests.{lt-ltb, le-ltb}
 use lib.ListN.{length}
 use Rattle.steps.specs.State as St
-use Rattle.steps.specs.State.{State, Pair, rounds, others, add, replace, full, crowded, maxRounds, maxMembers, maxTaken}
+use Rattle.steps.specs.State.{State, rounds, others, add, replace, full, crowded, maxRounds, maxMembers}
 use Rattle.steps.specs.Call.{refused, none, round, insert, insert-all}
 use Rattle.steps.specs.Call as C
 use Rattle.steps.specs.Step.{step, checks, act, say, write, over, short, first}

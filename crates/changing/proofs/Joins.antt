@@ -8,7 +8,7 @@ use lib.Dec.{eqb}
 use lib.ListN.{length, set, length-set, length-append}
 use lib.Seq.{getD-set-same, getD-set-other}
 use Rattle.links.specs.Path.{pick, count}
-use Rattle.links.specs.Places.{Places, Linked, put, order, vacancy}
+use Rattle.links.specs.Places.{put, order, vacancy}
 use Rattle.links.specs.Links.{Links, Chained, recordIn, joined}
 use Rattle.links.proofs.Paths.{same-or-not, count-append, count-same, count-other}
 use Rattle.links.proofs.Lists.{length-order, vacancy-fits, first-fits, last-fits}

@@ -1,24 +1,22 @@
 -- The rounds of a member place are all struck; and then the member leaves. Assumes nothing.
-use Prim.Native.Nat.{ℕ, zero, suc, _+_, _<_}
+use Prim.Native.Nat.{ℕ, _+_, _<_}
 use mathlib.Core.Path.{_≡_, refl, sym, ap, _∙_, subst}
 use mathlib.Core.Logic.{_≢_}
 use mathlib.Core.Bool.{true, not}
-use mathlib.Core.List.{List, [], map, map-map, append-nil}
+use mathlib.Core.List.{List, [], map, append-nil}
 use native.Mathlib.Omega.{arith}
 use borrow.Author.Tests.{eq-eqb, ne-eqb, eqb-true}
 use lib.Dec.{eqb}
 use lib.ListN.{length, length-map}
 use Rattle.steps.specs.Lists.{filter}
 use Rattle.steps.specs.State.{of, rounds, others, leave}
-use Rattle.steps.specs.Call.{round}
-use Rattle.steps.specs.Step.{first}
 use Rattle.steps.proofs.Filter.{length-split}
 use Rattle.links.specs.Path.{count, keep, without, strip}
 use Rattle.links.specs.Places.{order}
 use Rattle.links.specs.Links.{recordIn, recordOf}
-use Rattle.links.proofs.Paths.{count-same, Split, split-at, keep-same, keep-inside, path-walk}
+use Rattle.links.proofs.Paths.{Split, split-at, keep-same, keep-inside}
 use Rattle.links.proofs.Strips.{keep-neither, strip-those}
-use Rattle.links.proofs.Chains.{in-record, of-without, record-once}
+use Rattle.links.proofs.Chains.{in-record, of-without}
 use Rattle.multimap.specs.Map.{at, keyAt, valueAt, pairAt, pairs, members, roundsOf, membersOf, linksOf}
 use Rattle.multimap.specs.declared.ListOrderedMultimap.{ListOrderedMultimap}
 use Rattle.multimap.specs.WellLinked.{WellLinked}

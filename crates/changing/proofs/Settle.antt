@@ -9,13 +9,12 @@ use borrow.Author.Tests.{eq-eqb, ne-eqb, eqb-false}
 use lib.Dec.{eqb}
 use lib.ListN.{length}
 use Rattle.steps.specs.Lists.{filter}
-use Rattle.steps.specs.State.{has, of, keep as keeping}
+use Rattle.steps.specs.State.{has, keep as keeping}
 use Rattle.links.specs.Path.{pick, count, keep, strip}
 use Rattle.links.specs.Places.{Places, order}
 use Rattle.links.specs.Links.{recordOf, recordIn}
 use Rattle.links.proofs.Paths.{same-or-not, count-same, count-hit, count-other, keep-all, keep-same, count-keep}
 use Rattle.links.proofs.Strips.{strip-keep}
-use Rattle.index.specs.Table.{Holds}
 use Rattle.multimap.specs.Map.{at, keyAt, pairAt, pairs, members, roundsOf, membersOf, linksOf, stateOf}
 use Rattle.multimap.specs.WellLinked.{WellLinked}
 use Rattle.multimap.specs.declared.ListOrderedMultimap.{ListOrderedMultimap}

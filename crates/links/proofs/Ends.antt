@@ -1,18 +1,15 @@
 -- A list of places from both ends: walks, the first and the last place leave, places leave one after the other, and a freed place is taken
 -- again. Walks of a record's chain likewise. Assumes nothing.
-use Prim.Native.Nat.{ℕ, zero, suc, _+_, _-_, _≤_, _<_}
-use mathlib.Core.Path.{_≡_, refl, sym, ap, _∙_, subst}
-use mathlib.Core.Logic.{_≢_, ⊎-elim}
-use mathlib.Core.Bool.{Bool, true, false}
+use Prim.Native.Nat.{ℕ, _+_, _-_, _≤_, _<_}
+use mathlib.Core.Path.{_≡_, refl, ap, _∙_}
 use mathlib.Core.List.{List, [], _∷_, _++_, append-nil, reverse, reverse-cons}
 use native.Mathlib.Omega.{arith}
-use lib.Dec.{eqb}
 use lib.ListN.{length, length-reverse}
 use borrow.Author.Tests.{ne-eqb}
-use Rattle.links.specs.Path.{count, pick, without, strip, follow}
-use Rattle.links.specs.Places.{Places, order, freed, Linked, vacancy, pushed, cut, cuts}
+use Rattle.links.specs.Path.{count, strip, follow}
+use Rattle.links.specs.Places.{Places, order, Linked, vacancy, cut, cuts}
 use Rattle.links.specs.Links.{Links, base, recordIn, Chained}
-use Rattle.links.proofs.Paths.{Once, count-append, count-same, count-hit, count-other, same-or-not, path-follow, path-reverse, count-in}
+use Rattle.links.proofs.Paths.{Once, count-append, count-same, count-hit, path-follow, path-reverse, count-in}
 use Rattle.links.proofs.Lists.{length-order, order-once, order-without, cut-linked, cut-order}
 use Rattle.links.proofs.Chains.{cells-once, in-without}
 

@@ -1,33 +1,29 @@
 -- A well-linked map's links are met from both ends, and its index holds exactly the members with a round. Assumes nothing.
-use Prim.Native.Nat.{ℕ, _+_, _≤_, _<_}
-use mathlib.Core.Path.{_≡_, refl, sym, ap, _∙_, subst}
+use Prim.Native.Nat.{ℕ, _≤_, _<_}
+use mathlib.Core.Path.{_≡_, refl, sym, ap, _∙_}
 use mathlib.Core.Logic.{_⊎_, inl, inr, _≢_, ⊎-elim}
-use mathlib.Core.Bool.{Bool, true, false, true≢false}
+use mathlib.Core.Bool.{true, true≢false}
 use mathlib.Core.List.{List, [], _∷_, map, reverse, List·Memᴰ}
 use native.Mathlib.Omega.{arith}
 use lib.Dec.{eqb}
-use borrow.Author.Tests.{ne-eqb}
-use lib.ListN.{length, getD, length-map}
-use Rattle.steps.specs.State as St
+use lib.ListN.{length, getD}
 use Rattle.steps.specs.State.{has, of}
 use Rattle.steps.proofs.Filter.{nonempty, any-filter}
-use Rattle.links.specs.Path.{count, keep}
 use Rattle.links.specs.Places.{order}
 use Rattle.links.specs.Links.{recordIn}
-use Rattle.links.proofs.Paths.{keep-same, length-keep}
+use Rattle.links.proofs.Paths.{length-keep}
 use Rattle.links.proofs.Lists.{length-order}
 use Rattle.links.proofs.Ends.{record-from-front, record-from-back}
-use Rattle.index.specs.declared.KeyPlace.{KeyPlace}
 use Rattle.index.specs.declared.Found.{Found}
 use Rattle.index.specs.declared.Found.the-variants.{At, Absent}
 use Rattle.index.specs.Search.{search}
 use Rattle.index.proofs.Finds.{says-at, says-absent}
 use Rattle.index.proofs.Table.{held}
-use Rattle.multimap.specs.Map.{at, keyAt, valueAt, pairAt, pairs, members, roundsOf, membersOf, linksOf, stateOf}
+use Rattle.multimap.specs.Map.{at, keyAt, pairAt, pairs, roundsOf, membersOf, linksOf}
 use Rattle.multimap.specs.WellLinked.{WellLinked}
 use Rattle.multimap.specs.Links.{placesOf, fromHead, fromTail, Connected, Stands, FoundAt, Indexed}
 use Rattle.multimap.specs.declared.ListOrderedMultimap.{ListOrderedMultimap}
-use Rattle.multimap.proofs.Stores.{any-some, mem-count, count-mem}
+use Rattle.multimap.proofs.Stores.{mem-count}
 use Rattle.multimap.proofs.Records.{places-are, pairs-of, no-places, found}
 
 module _ (m : ListOrderedMultimap) (g : WellLinked m) where

@@ -1,20 +1,17 @@
 -- What a map's counts, and a search of its index, say of the state that it stands for. Assumes nothing.
 use Prim.Native.Nat.{ℕ, _≤_, _<_}
 use mathlib.Core.Path.{_≡_}
-use mathlib.Core.Logic.{_≢_}
 use mathlib.Core.Bool.{true, false}
 use borrow.Author.Tests.{le-leb, lt-leb}
 use lib.ListN.{length}
-use Rattle.steps.specs.State.{full, crowded, present, maxRounds, maxMembers}
-use Rattle.links.specs.Path.{count}
+use Rattle.steps.specs.State.{full, crowded, maxRounds, maxMembers}
 use Rattle.links.specs.Places.{order}
 use Rattle.index.specs.Table.{Vacant}
 use Rattle.index.specs.Search.{search as searched}
-use Rattle.index.specs.declared.KeyPlace.{KeyPlace}
-use Rattle.index.specs.declared.Found.the-variants.{At, Absent}
-use Rattle.index.proofs.Finds.{says-at, says-absent}
+use Rattle.index.specs.declared.Found.the-variants.{Absent}
+use Rattle.index.proofs.Finds.{says-absent}
 use Rattle.multimap.specs.declared.ListOrderedMultimap.{ListOrderedMultimap}
-use Rattle.multimap.specs.Map.{at, pairs, members, membersOf, stateOf}
+use Rattle.multimap.specs.Map.{pairs, members, membersOf, stateOf}
 use Rattle.multimap.specs.WellLinked.{WellLinked}
 use Rattle.multimap.proofs.Stores.{length-pairs, length-members}
 use Rattle.multimap.proofs.Records.{NoMember, not-found}

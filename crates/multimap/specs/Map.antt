@@ -1,5 +1,5 @@
 -- What a map stands for: P, the list of pairs; K, the list of members; T, the rounds ever taken in.
-use Prim.Native.Nat.{ℕ, _+_}
+use Prim.Native.Nat.{ℕ}
 use mathlib.Core.List.{List, map}
 use lib.ListN.{getD}
 use Rattle.steps.specs.State.{State, Pair}

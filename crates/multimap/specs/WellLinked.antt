@@ -1,7 +1,6 @@
 -- When a map is well-linked (document 01, module 6), and the map as a kind of map for the steps.
 use Prim.Native.Nat.{ℕ, _≤_, _<_}
 use mathlib.Core.Path.{_≡_}
-use mathlib.Core.List.{List}
 use lib.ListN.{length, getD}
 use Rattle.steps.specs.State.{maxTaken}
 use Rattle.steps.specs.Trace.{Kind}
@@ -9,7 +8,7 @@ use Rattle.links.specs.Path.{count}
 use Rattle.links.specs.Places.{order}
 use Rattle.links.specs.Links.{Chained, recordIn}
 use Rattle.index.specs.Table.{Holds}
-use Rattle.multimap.specs.Map.{at, linksOf, roundsOf, membersOf, stateOf}
+use Rattle.multimap.specs.Map.{linksOf, roundsOf, membersOf, stateOf}
 use Rattle.multimap.specs.declared.ListOrderedMultimap.{ListOrderedMultimap}
 
 -- Module 6's well-linked: the lists and the chains are linked, lengths and free places too; each member has a round; the index holds
