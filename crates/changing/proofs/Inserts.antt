@@ -32,7 +32,7 @@ module _ (k v : ℕ) (s : State) where
   unfolding step checks
   step-crowded p f c = rw (p, f, c)
 
-  step-known : St.present k s ≡ true → step (insert k v) s ≡ (say (first (rounds k (s .pairs))), replace k v s)
+  pub step-known : St.present k s ≡ true → step (insert k v) s ≡ (say (first (rounds k (s .pairs))), replace k v s)
   unfolding step checks act
   step-known p = rw (p, p)
 

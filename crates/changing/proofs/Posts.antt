@@ -41,19 +41,19 @@ module _ (m : ListOrderedMultimap) (k : ℕ) where
 -- ---- the step of `append`, case by case
 
 module _ (k v : ℕ) (s : State) where
-  step-full : full s ≡ true → step (append k v) s ≡ (say (refused 1), s)
+  pub step-full : full s ≡ true → step (append k v) s ≡ (say (refused 1), s)
   unfolding step checks
   step-full f = rw f
 
-  step-crowded : full s ≡ false → St.present k s ≡ false → crowded s ≡ true → step (append k v) s ≡ (say (refused 2), s)
+  pub step-crowded : full s ≡ false → St.present k s ≡ false → crowded s ≡ true → step (append k v) s ≡ (say (refused 2), s)
   unfolding step checks
   step-crowded f p c = rw (f, p, c)
 
-  step-known : full s ≡ false → St.present k s ≡ true → step (append k v) s ≡ (say (present true), add k v s)
+  pub step-known : full s ≡ false → St.present k s ≡ true → step (append k v) s ≡ (say (present true), add k v s)
   unfolding step checks act
   step-known f p = rw (f, p, p)
 
-  step-new : full s ≡ false → St.present k s ≡ false → crowded s ≡ false → step (append k v) s ≡ (say (present false), add k v s)
+  pub step-new : full s ≡ false → St.present k s ≡ false → crowded s ≡ false → step (append k v) s ≡ (say (present false), add k v s)
   unfolding step checks act
   step-new f p c = rw (f, p, c, p)
 

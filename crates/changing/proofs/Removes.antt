@@ -23,7 +23,7 @@ use Rattle.changing.specs.Sweep.{RecordRemoved}
 -- ---- the step
 
 module _ (k : ℕ) (s : State) where
-  step-remove : step (remove k) s ≡ (say (first (rounds k (s .pairs))), remove-member k s)
+  pub step-remove : step (remove k) s ≡ (say (first (rounds k (s .pairs))), remove-member k s)
   unfolding step checks act
   step-remove = refl
 

@@ -9,13 +9,13 @@ use lib.Seq.{getD-set-same, getD-set-other}
 use Rattle.links.specs.Places.{Places, put, order, Linked, pushed}
 use Rattle.links.proofs.Puts.{put-hit, put-miss}
 use Rattle.links.proofs.Bare.{bare-order, bare-linked}
-use Rattle.links.proofs.Lists.{length-order, last-in, at-most-root, pushed-linked}
+use Rattle.links.proofs.Lists.{length-order, order-distinct, last-fits, pushed-linked}
 use Rattle.multimap.specs.Map.{at, keyAt, valueAt, membersOf}
 use Rattle.multimap.specs.declared.ListOrderedMultimap.{ListOrderedMultimap}
 use Rattle.multimap.proofs.Stores.{key-set₂, value-set, Sized, places-eq}
 use Rattle.packing.specs.Moves.{EmptyRecord, MembersMoved, SameRounds}
 use Rattle.packing.proofs.Lists.{nth-apart}
-use Rattle.packing.proofs.Walks.{walk-first, walk-once, walk-few, walk-nth, walk-fits, walk-next, pushed-up, order-up}
+use Rattle.packing.proofs.Walks.{walk-first, walk-few, walk-nth, walk-fits, walk-next, pushed-up, order-up}
 use Rattle.packing.proofs.Clears.{key-end}
 
 -- after i turns: i members are moved, and the walk along the old list is at the next one
@@ -110,14 +110,14 @@ module _ (m : ListOrderedMultimap) (g : Linked (membersOf m)) where
     new-fits : i < 256
     new-fits = omega (arith, more, walk-few l g)
 
-    last-fits : keyAt (o .«previous_key») 256 < 257
-    last-fits = omega (arith, at-most-root (membersOf o) (t .moved .linked) (keyAt (o .«previous_key») 256) (last-in (membersOf o) (t .moved .linked)))
+    back-fits : keyAt (o .«previous_key») 256 < 257
+    back-fits = omega (arith, last-fits (membersOf o) (t .moved .linked))
 
     old-fits : x < 256
     old-fits = walk-fits l g i x more (t .here)
 
     pub fits : Fits x i (keyAt (o .«previous_key») 256)
-    fits = record { old = old-fits; new = new-fits; back = last-fits }
+    fits = record { old = old-fits; new = new-fits; back = back-fits }
 
     abbrev last : ℕ
     last = keyAt (o .«previous_key») 256
@@ -152,7 +152,7 @@ module _ (m : ListOrderedMultimap) (g : Linked (membersOf m)) where
     links : membersOf joined ≡ pushed (membersOf o)
     links =
         places-eq (membersOf joined) _
-        (key-set₂ (o .«next_key») last (record { 0 = i }) i (record { 0 = 256 }) 257 (t .sized .next-key) last-fits (omega (arith, new-fits)))
+        (key-set₂ (o .«next_key») last (record { 0 = i }) i (record { 0 = 256 }) 257 (t .sized .next-key) back-fits (omega (arith, new-fits)))
         (key-set₂ (o .«previous_key») i (record { 0 = last }) 256 (record { 0 = i }) 257 (t .sized .previous-key) (omega (arith, new-fits)) (omega arith))
         refl refl refl refl
         ∙ sym (pushed-up (membersOf o) i (t .moved .len) (t .moved .fresh))
@@ -186,7 +186,7 @@ module _ (m : ListOrderedMultimap) (g : Linked (membersOf m)) where
     place-old : (k : ℕ) → k < i → at (set places x i) (getD old k 0) ≡ k
     place-old k h =
         getD-set-other places x (getD old k 0) i 0
-        (λ e. nth-apart old k i 0 (walk-once l g) h (rw (length-order l) more) (e ∙ walk-nth l g i x more (t .here)))
+        (λ e. nth-apart old k i 0 (order-distinct l g) h (rw (length-order l) more) (e ∙ walk-nth l g i x more (t .here)))
         ∙ t .moved .place k h
 
     pub members-more : (y : ℕ) → y ≡ keyAt (m .«next_key») x → MembersTurned (m .keys) (order (membersOf m)) o₀ (i + 1) y (set places x i) joined

@@ -12,7 +12,7 @@ use Rattle.links.specs.Places.{Places, put, order}
 use Rattle.links.specs.Links.{Links, base, Chained, added}
 use Rattle.links.proofs.Puts.{put-hit, put-miss}
 use Rattle.links.proofs.Bare.{bare-order, bare-linked}
-use Rattle.links.proofs.Lists.{length-order, in-array, last-in, at-most-root}
+use Rattle.links.proofs.Lists.{length-order, in-array, last-fits}
 use Rattle.links.proofs.Chains.{added-chained, tail-fits, size-in}
 use Rattle.multimap.specs.Map.{at, keyAt, valueAt, roundsOf, membersOf, linksOf}
 use Rattle.multimap.specs.declared.ListOrderedMultimap.{ListOrderedMultimap}
@@ -160,8 +160,8 @@ module _ (m : ListOrderedMultimap) (places : List ℕ) (h : Movable m places) wh
     to-fits : i < 1024
     to-fits = omega (arith, more, walk-few l (h .rounds))
 
-    last-fits : last < 1025
-    last-fits = omega (arith, at-most-root (roundsOf o) (t .moved .chained .rounds) last (last-in (roundsOf o) (t .moved .chained .rounds)))
+    back-fits : last < 1025
+    back-fits = omega (arith, last-fits (roundsOf o) (t .moved .chained .rounds))
 
     place-fits : key < 256
     place-fits = in-array (membersOf o) (t .moved .chained .members) key here
@@ -175,7 +175,7 @@ module _ (m : ListOrderedMultimap) (places : List ℕ) (h : Movable m places) wh
         record {
           from = walk-fits l (h .rounds) i x more (t .here);
           to = to-fits;
-          back = last-fits;
+          back = back-fits;
           member = h .old x (walk-in l (h .rounds) i x more (t .here));
           place = place-fits;
           end = end-fits;
@@ -211,7 +211,7 @@ module _ (m : ListOrderedMultimap) (places : List ℕ) (h : Movable m places) wh
         let s = t .sized in
         links-eq (linksOf stored) _
         (places-eq (roundsOf stored) _
-        (value-set₂ (o .«next_value») last (record { 0 = i }) i (record { 0 = 1024 }) 1025 (s .next-value) last-fits (omega (arith, to-fits)))
+        (value-set₂ (o .«next_value») last (record { 0 = i }) i (record { 0 = 1024 }) 1025 (s .next-value) back-fits (omega (arith, to-fits)))
         (value-set₂ (o .«previous_value») i (record { 0 = last }) 1024 (record { 0 = i }) 1025 (s .previous-value) (omega (arith, to-fits)) (omega arith))
         refl refl refl refl)
         refl
