@@ -21,7 +21,7 @@ use Rattle.multimap.specs.Map.{at, keyAt, pairAt, pairs, members, roundsOf, mem
 use Rattle.multimap.specs.declared.ListOrderedMultimap.{ListOrderedMultimap}
 use Rattle.multimap.proofs.Stores.{Sized, map-same, map-append, mem-count, count-mem}
 use Rattle.multimap.proofs.Additions.{with-member, member-links, member-stored}
-use Rattle.changing.specs.Adding.{Open, Joins, Joined, lastKey}
+use Rattle.changing.specs.Adding.{Ready, Joins, Joined, lastKey}
 
 -- where the stores go
 pub members-ends : (m : ListOrderedMultimap) (k p : ℕ) → Joins m k p → (keyAt (m .«next_key») 256 ≤ 256) × (keyAt (m .«previous_key») 256 ≤ 256)
@@ -89,7 +89,7 @@ module _ (m : ListOrderedMultimap) (k p : ℕ) (h : Joins m k p) (s : Sized m) (
       relist (rw (joiners, length-append) (omega (arith, long))) to back
       (added (m .index) (r .keys) ks p key kept long fits (λ i. off key (mem-count key ks i) refl) apart (rw number (h .vacant)))
 
-  ready : Open r key
+  ready : Ready r key
   ready =
       record {
         chained = subst Chained (sym links) (joined-chained (linksOf m) (h .linked .chained) (h .spare));

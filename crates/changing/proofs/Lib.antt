@@ -1,10 +1,11 @@
+-- Laws that belong to no one function.
 pub mod Joins
 pub mod Adds
 pub mod Posts
 pub mod Stretches
-pub mod Turns
+pub mod Strikes
 pub mod Sweeps
-pub mod Settle
+pub mod Leaving
 pub mod Records
 pub mod Removes
 pub mod Pops

@@ -30,14 +30,14 @@ use Rattle.changing.specs.Strike.{Stretch, Struck, RoundPlace}
 use Rattle.changing.specs.Sweep.{idle, Sweepable, Swept}
 use Rattle.changing.specs.RemovingAnswer.{poppedOf, rest, PoppedAt}
 use Rattle.changing.specs.declared.removing.Popped.{Popped}
-use Rattle.changing.specs.declared.removing.Popped.the-variants as P
-use Rattle.changing.proofs.Settle.{has-size, still, size-o, struck-sound, settled-well, settled-state, all-have, cover-one}
+use Rattle.changing.specs.declared.removing.Popped.the-variants as A
+use Rattle.changing.proofs.Leaving.{has-size, member-still, length-now, struck-sound, left-linked, left-state, all-have, leaves-one}
 
 -- ---- the state
 
 -- the pair p leaves P, and ps are the others: keeping these is what the step does
-off : (s : State) (p : Pair) (ps : List Pair) → filter (λ j. has j (s .pairs)) (s .members) ≡ s .members → ((j : ℕ) → has j (s .pairs) ≡ (of j p || has j ps)) → keeping ps s ≡ remove-pair p ps s
-off s p ps all h = ap (λ (l : List ℕ). record { pairs = ps; members = l; taken = s .taken }) (go (has (p .key) ps) refl)
+keeping-others : (s : State) (p : Pair) (ps : List Pair) → filter (λ j. has j (s .pairs)) (s .members) ≡ s .members → ((j : ℕ) → has j (s .pairs) ≡ (of j p || has j ps)) → keeping ps s ≡ remove-pair p ps s
+keeping-others s p ps all h = ap (λ (l : List ℕ). record { pairs = ps; members = l; taken = s .taken }) (go (has (p .key) ps) refl)
   where
     others : (j : ℕ) → eqb j (p .key) ≡ false → has j ps ≡ has j (s .pairs)
     others j e = sym (h j ∙ ap (λ (b : Bool). b || has j ps) e)
@@ -98,56 +98,56 @@ module _ (m : ListOrderedMultimap) (x : ℕ) (h : RoundPlace m x) where
 
   module _ (o : ListOrderedMultimap) (s : Struck m (x ∷ []) o) where
     -- the place of its member
-    abbrev K : ℕ
-    K = keyAt (o .«key_index») x
+    abbrev place : ℕ
+    place = keyAt (o .«key_index») x
 
-    K-in : 0 < count K (order (membersOf m))
-    K-in = rw (s .kept .key-index) (g .chained .keys x (h .inside))
+    place-in : 0 < count place (order (membersOf m))
+    place-in = rw (s .kept .key-index) (g .chained .keys x (h .inside))
 
     pub key-fits : keyAt (o .«key_index») x < 256
-    key-fits = in-array (membersOf m) (g .chained .members) K K-in
+    key-fits = in-array (membersOf m) (g .chained .members) place place-in
 
     pub sweepable : Sweepable o (keyAt (o .«key_index») x) 1
     sweepable =
-        let p : Split K (order (membersOf o)) = split-at K (order (membersOf o)) (rw (ap order (s .kept .members)) K-in) in
+        let p : Split place (order (membersOf o)) = split-at place (order (membersOf o)) (rw (ap order (s .kept .members)) place-in) in
         record { sound = struck-sound m g (x ∷ []) o s; front = p .front; back = p .back; whole = p .whole }
 
     -- the other members keep their rounds
-    others : (j : ℕ) → 0 < count j (order (membersOf o)) → j ≢ K → at (o .length) j ≢ 0
+    others : (j : ℕ) → 0 < count j (order (membersOf o)) → j ≢ place → at (o .length) j ≢ 0
     others j i n e =
         let i′ : 0 < count j (order (membersOf m)) = rw (ap order (s .kept .members)) at i in
-        let k : K ≡ key x = ap (λ (l : List _). keyAt l x) (s .kept .key-index) in
+        let k : place ≡ key x = ap (λ (l : List _). keyAt l x) (s .kept .key-index) in
         let a : recordOf key j (order (roundsOf o)) ≡ recordIn (linksOf m) j =
         ap (recordOf key j) (s .left)
         ∙ keep-inside (λ q. eqb (key q) j) (λ q. not (eqb q x)) vs (λ q u. ap not (ne-eqb q x (λ v. n (sym (eqb-true (key q) j u) ∙ ap key v ∙ sym k)))) in
-        omega (arith, g .some j i′, ap length a, size-o m g (x ∷ []) o s j i′, e)
+        omega (arith, g .some j i′, ap length a, length-now m g (x ∷ []) o s j i′, e)
 
-    gone : eqb (at (o .length) K) 0 ≡ not (has (pairAt m x .key) (rest m x))
+    gone : eqb (at (o .length) place) 0 ≡ not (has (pairAt m x .key) (rest m x))
     gone =
-        let z : has (at (m .keys) K) (map (pairAt m) (order (roundsOf o))) ≡ not (eqb (at (o .length) K) 0) =
-        has-size m g K K-in (order (roundsOf o)) (still m g (x ∷ []) o s) ∙ ap (λ (n : ℕ). not (eqb n 0)) (sym (size-o m g (x ∷ []) o s K K-in)) in
-        sym (Bool·not-not (eqb (at (o .length) K) 0))
+        let z : has (at (m .keys) place) (map (pairAt m) (order (roundsOf o))) ≡ not (eqb (at (o .length) place) 0) =
+        has-size m g place place-in (order (roundsOf o)) (member-still m g (x ∷ []) o s) ∙ ap (λ (n : ℕ). not (eqb n 0)) (sym (length-now m g (x ∷ []) o s place place-in)) in
+        sym (Bool·not-not (eqb (at (o .length) place) 0))
         ∙ ap not (sym z ∙ ap (λ (l : List _). has (at (m .keys) (keyAt l x)) (map (pairAt m) (order (roundsOf o)))) (s .kept .key-index) ∙ ap (λ (l : List ℕ). has (pairAt m x .key) (map (pairAt m) l)) (s .left))
 
     -- whichever members have left, so that those with a round are there
-    module _ (us : List ℕ) (r : ListOrderedMultimap) (w : Swept o us r) (cover : strip us (order (membersOf o)) ≡ keep (λ j. not (eqb (at (o .length) j) 0)) (order (membersOf o))) where
-      taken-out : (b : Bool) → eqb (at (o .length) K) 0 ≡ b → PoppedAt m x (P.Pair (at (o .keys) K) (at (o .values) x) b) r
+    module _ (us : List ℕ) (r : ListOrderedMultimap) (w : Swept o us r) (leavers : strip us (order (membersOf o)) ≡ keep (λ j. not (eqb (at (o .length) j) 0)) (order (membersOf o))) where
+      taken-out : (b : Bool) → eqb (at (o .length) place) 0 ≡ b → PoppedAt m x (A.Pair (at (o .keys) place) (at (o .values) x) b) r
       taken-out b e =
           record {
             answer = rw (s .kept .keys, s .kept .values, ap (λ (l : List _). keyAt l x) (s .kept .key-index), ← gone, e);
             state =
-                settled-state m g (x ∷ []) o s us r w cover ∙ ap (λ (l : List ℕ). keeping (map (pairAt m) l) (stateOf m)) (s .left)
-                ∙ off (stateOf m) (pairAt m x) (rest m x) (all-have m g) others-have;
-            linked = settled-well m g (x ∷ []) o s us r w cover;
+                left-state m g (x ∷ []) o s us r w leavers ∙ ap (λ (l : List ℕ). keeping (map (pairAt m) l) (stateOf m)) (s .left)
+                ∙ keeping-others (stateOf m) (pairAt m x) (rest m x) (all-have m g) others-have;
+            linked = left-linked m g (x ∷ []) o s us r w leavers;
           }
 
     -- it was the member's last round
     pub popped-last : at (o .length) (keyAt (o .«key_index») x) ≡ 0 → (r : ListOrderedMultimap) → Swept o (idle o (keyAt (o .«key_index») x) 1) r
-        → PoppedAt m x (P.Pair (at (o .keys) (keyAt (o .«key_index») x)) (at (o .values) x) true) r
-    popped-last e r w = taken-out (idle o K 1) r w (cover-one (at (o .length)) K (order (membersOf o)) others) true (eq-eqb (at (o .length) K) 0 e)
+        → PoppedAt m x (A.Pair (at (o .keys) (keyAt (o .«key_index») x)) (at (o .values) x) true) r
+    popped-last e r w = taken-out (idle o place 1) r w (leaves-one (at (o .length)) place (order (membersOf o)) others) true (eq-eqb (at (o .length) place) 0 e)
 
     -- it was not: nobody leaves
-    pub popped-one : at (o .length) (keyAt (o .«key_index») x) ≢ 0 → PoppedAt m x (P.Pair (at (o .keys) (keyAt (o .«key_index») x)) (at (o .values) x) false) o
+    pub popped-one : at (o .length) (keyAt (o .«key_index») x) ≢ 0 → PoppedAt m x (A.Pair (at (o .keys) (keyAt (o .«key_index») x)) (at (o .values) x) false) o
     popped-one e =
         let stays : Swept o [] o =
         record {
@@ -156,8 +156,8 @@ module _ (m : ListOrderedMultimap) (x : ℕ) (h : RoundPlace m x) where
           kept = record { keys = refl; values = refl; key-index = refl; rounds = refl; next-index = refl; previous-index = refl; lengths = refl; taken = refl };
         } in
         let all : (j : ℕ) → 0 < count j (order (membersOf o)) → at (o .length) j ≢ 0 =
-        λ j i. ⊎-elim (λ (u : j ≡ K). λ z. e (ap (at (o .length)) (sym u) ∙ z)) (others j i) (same-or-not j K) in
-        taken-out [] o stays (sym (keep-all (λ j. not (eqb (at (o .length) j) 0)) (order (membersOf o)) (λ j i. ap not (ne-eqb (at (o .length) j) 0 (all j i))))) false (ne-eqb (at (o .length) K) 0 e)
+        λ j i. ⊎-elim (λ (u : j ≡ place). λ z. e (ap (at (o .length)) (sym u) ∙ z)) (others j i) (same-or-not j place) in
+        taken-out [] o stays (sym (keep-all (λ j. not (eqb (at (o .length) j) 0)) (order (membersOf o)) (λ j i. ap not (ne-eqb (at (o .length) j) 0 (all j i))))) false (ne-eqb (at (o .length) place) 0 e)
 
 -- ---- the steps
 

@@ -15,12 +15,12 @@ use Rattle.multimap.specs.declared.ListOrderedMultimap.{ListOrderedMultimap}
 use Rattle.multimap.proofs.Stores.{any-none}
 use Rattle.multimap.proofs.Records.{Member}
 use Rattle.multimap.proofs.States.{Unknown, is-full, not-full, is-crowded, not-crowded}
-use Rattle.changing.specs.Adding.{Open, AddedTo, Joins, Joined, Posted, lastKey}
+use Rattle.changing.specs.Adding.{Ready, AddedTo, Joins, Joined, Posted, lastKey}
 
 module _ (m : ListOrderedMultimap) (k : ℕ) where
   -- a member is ready for a further round
-  pub open-known : (key : ℕ) → WellLinked m → m .«values_len» < maxRounds → Member m k key → Open m key
-  open-known key g room h = record { chained = g .chained; here = h .member; others = λ j i n. g .some j i; index = g .index; room = room }
+  pub ready-known : (key : ℕ) → WellLinked m → m .«values_len» < maxRounds → Member m k key → Ready m key
+  ready-known key g room h = record { chained = g .chained; here = h .member; others = λ j i n. g .some j i; index = g .index; room = room }
 
   -- who is no member can become one
   pub joins-unknown : (p : ℕ) → WellLinked m → m .«values_len» < maxRounds → m .«keys_len» < maxMembers → Unknown m k p → Joins m k p

@@ -24,8 +24,8 @@ use Rattle.multimap.proofs.Stores.{length-pairs}
 use Rattle.multimap.proofs.Records.{Member, member-at, own-round, same-number, head-in, filter-map}
 use Rattle.changing.specs.Strike.{chosen, visited, Stretch, Struck, MemberPlace, Emptied}
 use Rattle.changing.specs.Sweep.{idle, Sweepable, Swept, RecordRemoved}
-use Rattle.changing.proofs.Turns.{chosen-all}
-use Rattle.changing.proofs.Settle.{struck-sound}
+use Rattle.changing.proofs.Strikes.{chosen-all}
+use Rattle.changing.proofs.Leaving.{struck-sound}
 
 -- the place of a member
 pub place-of : (m : ListOrderedMultimap) → WellLinked m → (k x : ℕ) → Member m k x → MemberPlace m x

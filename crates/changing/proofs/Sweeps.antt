@@ -131,7 +131,9 @@ module _ (o : ListOrderedMultimap) (s : Sized o) (g : Sound o) (x : ℕ) (i : 0 
 
 -- ---- the turns
 
-pub record Passing (m : ListOrderedMultimap) (start turns : ℕ) (h : Sweepable m start turns) (i q : ℕ) (o : ListOrderedMultimap) : Type 0 where
+-- After i turns: the list of members has those that were kept, then those still to be passed, at the first of which the walk is; and letting
+-- leave those of them that have no round comes to what is asked.
+pub record Turned (m : ListOrderedMultimap) (start turns : ℕ) (h : Sweepable m start turns) (i q : ℕ) (o : ListOrderedMultimap) : Type 0 where
   pub some : i ≤ turns
   pub sized : Sized o
   pub sound : Sound o
@@ -151,8 +153,8 @@ module _ (m : ListOrderedMultimap) (start turns : ℕ) (h : Sweepable m start tu
   long : length vs ≡ turns
   long = length-walk (keyAt (m .«next_key»)) start turns
 
-  pub passing-none : Sized m → Passing m start turns h 0 start m
-  passing-none s =
+  pub turned-none : Sized m → Turned m start turns h 0 start m
+  turned-none s =
       record {
         some = omega arith;
         sized = s;
@@ -164,9 +166,9 @@ module _ (m : ListOrderedMultimap) (start turns : ℕ) (h : Sweepable m start tu
         rest = refl;
       }
 
-  module _ (i q : ℕ) (o : ListOrderedMultimap) (t : Passing m start turns h i q o) where
-    pub passing-all : turns ≤ i → Swept m (idle m start turns) o
-    passing-all e =
+  module _ (i q : ℕ) (o : ListOrderedMultimap) (t : Turned m start turns h i q o) where
+    pub turned-all : turns ≤ i → Swept m (idle m start turns) o
+    turned-all e =
         let a : drop i vs ≡ [] = drop-of-length-le vs {i = i} (omega (arith, long)) in
         record {
           sound = t .sound;
@@ -202,8 +204,8 @@ module _ (m : ListOrderedMultimap) (start turns : ℕ) (h : Sweepable m start tu
       choice : (z : Bool) → f q ≡ z → strip (keep f (drop i vs)) (order (membersOf o)) ≡ strip (pick z (q ∷ keep f ds) (keep f ds)) (order (membersOf o))
       choice z u = ap (λ (l : List ℕ). strip (keep f l) (order (membersOf o))) ahead ∙ ap (λ (z : Bool). strip (pick z (q ∷ keep f ds) (keep f ds)) (order (membersOf o))) u
 
-      pub passing-kept : at (o .length) q ≢ 0 → Passing m start turns h (i + 1) (keyAt (o .«next_key») q) o
-      passing-kept u =
+      pub turned-kept : at (o .length) q ≢ 0 → Turned m start turns h (i + 1) (keyAt (o .«next_key») q) o
+      turned-kept u =
           record {
             some = omega arith;
             sized = t .sized;
@@ -219,8 +221,8 @@ module _ (m : ListOrderedMultimap) (start turns : ℕ) (h : Sweepable m start tu
         gone : order (membersOf (r o (t .sized) (t .sound) q q-in closed)) ≡ without q (order (membersOf o))
         gone = left-now o (t .sized) (t .sound) q q-in closed u shut
 
-        pub passing-left : Passing m start turns h (i + 1) (keyAt (o .«next_key») q) (r o (t .sized) (t .sound) q q-in closed)
-        passing-left =
+        pub turned-left : Turned m start turns h (i + 1) (keyAt (o .«next_key») q) (r o (t .sized) (t .sound) q q-in closed)
+        turned-left =
             record {
               some = omega arith;
               sized = sized-now o (t .sized) (t .sound) q q-in closed u shut;

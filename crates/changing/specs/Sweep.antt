@@ -1,4 +1,4 @@
--- Members without a round leave.
+-- Members without a round leave, by a walk along the list of members.
 use Prim.Native.Nat.{ℕ}
 use mathlib.Core.Path.{_≡_}
 use mathlib.Core.List.{List, _++_}

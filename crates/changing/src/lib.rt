@@ -9,7 +9,7 @@ ghost use Prim.Native.Nat.{_+_, min};
 ghost use lib.Dec.{eqb};
 ghost use Rattle.links.specs.Path.{pick, walk};
 ghost use Rattle.steps.specs.State.{maxTaken};
-ghost use Rattle.changing.specs.Adding.{Open, AddedTo, Joins, Joined, Posted};
+ghost use Rattle.changing.specs.Adding.{Ready, AddedTo, Joins, Joined, Posted};
 ghost use mathlib.Core.Bool.{cond};
 ghost use mathlib.Core.List.{map};
 ghost use lib.ListN.{getD};
@@ -73,7 +73,7 @@ fn join(mut m: ListOrderedMultimap, k: u64, at: usize) -> ListOrderedMultimap
 
 // The map with the round v of the member place `key` at the back.
 fn add_round(mut m: ListOrderedMultimap, key: u16, v: u64) -> ListOrderedMultimap
-    requires { ⌜ Open m key ⌝ }
+    requires { ⌜ Ready m key ⌝ }
     ensures { λ r. ⌜ AddedTo m key v r ⌝ }
 {
     let held = m.values_len;

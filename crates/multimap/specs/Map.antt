@@ -58,11 +58,14 @@ linksOf m =
 abbrev pub pairAt : ListOrderedMultimap → ℕ → Pair
 pairAt m q = record { key = at (m .keys) (keyAt (m .«key_index») q); value = at (m .values) q }
 
+-- P: the list of rounds in order, each with its member
 abbrev pub pairs : ListOrderedMultimap → List Pair
 pairs m = map (pairAt m) (order (roundsOf m))
 
+-- K: the list of members in order
 abbrev pub members : ListOrderedMultimap → List ℕ
 members m = map (at (m .keys)) (order (membersOf m))
 
+-- P, K and T, which is the counter
 abbrev pub stateOf : ListOrderedMultimap → State
 stateOf m = record { pairs = pairs m; members = members m; taken = m .taken }

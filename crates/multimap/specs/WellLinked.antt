@@ -19,10 +19,11 @@ pub record WellLinked (m : ListOrderedMultimap) : Type 0 where
   pub index : Holds (m .index) (m .keys) (order (membersOf m))
   pub taken : m .taken ≤ maxTaken
 
--- the i-th pair stands in round place i, and the i-th member in member place i
+-- Where `pack_to` puts them: the i-th pair stands in round place i, and the i-th member in member place i
 abbrev pub Packed : ListOrderedMultimap → Type 0
 Packed m =
     ((i : ℕ) → i < m .«values_len» → getD (order (roundsOf m)) i 0 ≡ i) × ((i : ℕ) → i < m .«keys_len» → getD (order (membersOf m)) i 0 ≡ i)
 
+-- the linked map, for `Does` and the claims on lists of calls
 abbrev pub linked : Kind ListOrderedMultimap
 linked = record { abs = stateOf; Linked = WellLinked; Packed = Packed }

@@ -1,4 +1,4 @@
--- `changing::strike` meets its contract, by the laws of proofs/Turns.antt. Assumes nothing.
+-- `changing::strike` meets its contract, by the laws of proofs/Strikes.antt. Assumes nothing.
 use Prim.Native.Nat.{ℕ, _-_, _<_}
 use mathlib.Core.Path.{sym, _∙_}
 use mathlib.Core.Logic.{⊎-elim}
@@ -10,7 +10,7 @@ use Rattle.multimap.specs.Map.{at, roundsOf, linksOf}
 use Rattle.multimap.specs.declared.ListOrderedMultimap.{ListOrderedMultimap}
 use Rattle.multimap.proofs.Sizes.{sized}
 use Rattle.changing.specs.Strike.{Stretch}
-use Rattle.changing.proofs.Turns.{Turned, turned-none, turned-all, turned-kept, turned-struck, q-in, onward-cond, Bounds, bounds}
+use Rattle.changing.proofs.Strikes.{Turned, turned-none, turned-all, turned-kept, turned-struck, q-in, onward-cond, Bounds, bounds}
 use Rattle.changing.proofs.strike.Statement.{statement}
 use Rattle.changing.proofs.strike.Tie as tie
 

@@ -5,7 +5,7 @@ use native.Mathlib.Omega.{arith}
 use borrow.Author.Needs.{needs}
 use Rattle.multimap.proofs.Records.{Member, found}
 use Rattle.multimap.proofs.States.{Unknown, absent-at}
-use Rattle.changing.proofs.Posts.{open-known, joins-unknown, posted-known, append-full, append-crowded, append-known, append-new}
+use Rattle.changing.proofs.Posts.{ready-known, joins-unknown, posted-known, append-full, append-crowded, append-known, append-new}
 use Rattle.changing.proofs.adding.append.Statement.{statement}
 use Rattle.changing.proofs.adding.append.Tie as tie
 
@@ -35,7 +35,7 @@ enum-known-found c = search needs
 add-round-requires : tie.Need-add-round-requires
 add-round-requires c κs =
     let f = c .before .before .before in
-    open-known (s f .args .m) (s f .args .k) _ (s f .pre) (room f) (member (c .before))
+    ready-known (s f .args .m) (s f .args .k) _ (s f .pre) (room f) (member (c .before))
 
 enum-known-found-2 : tie.Need-enum-known-found-2
 enum-known-found-2 c = search needs
