@@ -5,28 +5,28 @@ use mathlib.Core.Logic.{_≢_}
 use mathlib.Core.List.{List, [], _∷_, _++_, map}
 use native.Mathlib.Omega.{arith}
 use lib.Dec.{eqb}
-use lib.ListN.{length, set}
+use lib.ListN.{length}
 use lib.Seq.{getD-set-same, getD-set-other}
 use Rattle.steps.specs.State.{maxTaken}
 use Rattle.links.specs.Path.{pick, count}
-use Rattle.links.specs.Places.{put, order, vacancy}
+use Rattle.links.specs.Places.{order, vacancy}
 use Rattle.links.specs.Links.{Links, Chained, recordIn, added}
 use Rattle.links.proofs.Puts.{put-hit, put-miss}
-use Rattle.links.proofs.Lists.{in-array, vacancy-fits, length-order}
+use Rattle.links.proofs.Lists.{in-array, first-fits, last-fits, vacancy-fits, length-order}
 use Rattle.links.proofs.Chains.{added-order, added-off, added-chained, added-some, tail-fits, size-in}
 use Rattle.multimap.specs.Map.{at, keyAt, valueAt, pairAt, pairs, members, roundsOf, membersOf, linksOf}
 use Rattle.multimap.specs.declared.ListOrderedMultimap.{ListOrderedMultimap}
-use Rattle.multimap.proofs.Stores.{at-set, key-set, value-set₂, Sized, places-eq, links-eq, map-same, map-append}
-use Rattle.changing.specs.Adding.{Open, AddedTo}
-use Rattle.changing.proofs.Joins.{ends-fit}
+use Rattle.multimap.proofs.Stores.{Sized, map-same, map-append}
+use Rattle.multimap.proofs.Additions.{with-round, round-links, round-stored}
+use Rattle.changing.specs.Adding.{Ready, AddedTo}
 
-module _ (m : ListOrderedMultimap) (key : ℕ) (g : Open m key) where
+module _ (m : ListOrderedMultimap) (key : ℕ) (g : Ready m key) where
   -- where the stores go
   pub key-fits : key < 256
   key-fits = in-array (membersOf m) (g .chained .members) key (g .here)
 
   pub rounds-ends : (valueAt (m .«next_value») 1024 ≤ 1024) × (valueAt (m .«previous_value») 1024 ≤ 1024)
-  rounds-ends = ends-fit (roundsOf m) (g .chained .rounds)
+  rounds-ends = (first-fits (roundsOf m) (g .chained .rounds), last-fits (roundsOf m) (g .chained .rounds))
 
   pub tail-in : valueAt (m .«previous_index») (1024 + key) < 1280
   tail-in = tail-fits (linksOf m) (g .chained) key 256 (g .here) key-fits
@@ -42,63 +42,15 @@ module _ (m : ListOrderedMultimap) (key : ℕ) (g : Open m key) where
         (f : fresh ≡ pick (eqb (m .«values_len») (m .«values_fresh»)) (m .«values_fresh» + 1) (m .«values_fresh»))
         (u : free ≡ pick (eqb (m .«values_len») (m .«values_fresh»)) (m .«values_free» .0) (valueAt (m .«next_value») x))
         (e : t ≡ min (m .taken + 1) maxTaken) where
-      abbrev last : ℕ
-      last = valueAt (m .«previous_value») 1024
-
-      abbrev tail : ℕ
-      tail = valueAt (m .«previous_index») (1024 + key)
-
       -- the map with the stores
       abbrev r : ListOrderedMultimap
-      r =
-          record {
-            keys = m .keys;
-            length = set (m .length) key (at (m .length) key + 1);
-            «next_key» = m .«next_key»;
-            «previous_key» = m .«previous_key»;
-            values = set (m .values) x v;
-            «key_index» = set (m .«key_index») x (record { 0 = key });
-            «next_value» = set (set (m .«next_value») last (record { 0 = x })) x (record { 0 = 1024 });
-            «previous_value» = set (set (m .«previous_value») x (record { 0 = last })) 1024 (record { 0 = x });
-            «next_index» = set (set (m .«next_index») tail (record { 0 = x })) x (record { 0 = 1024 + key });
-            «previous_index» = set (set (m .«previous_index») x (record { 0 = tail })) (1024 + key) (record { 0 = x });
-            index = m .index;
-            «keys_len» = m .«keys_len»;
-            «keys_fresh» = m .«keys_fresh»;
-            «keys_free» = m .«keys_free»;
-            «values_len» = m .«values_len» + 1;
-            «values_fresh» = fresh;
-            «values_free» = record { 0 = free };
-            taken = t;
-          }
+      r = with-round m x key v (m .«values_len» + 1) fresh (record { 0 = free }) t
 
       links : linksOf r ≡ added (linksOf m) key
       links =
-          subst (λ (y : ℕ). linksOf r ≡ record {
-            rounds = record {
-              next = put (put (valueAt (m .«next_value»)) last y) y 1024;
-              prev = put (put (valueAt (m .«previous_value»)) y last) 1024 y;
-              root = 1024;
-              len = m .«values_len» + 1;
-              fresh = pick (eqb (m .«values_len») (m .«values_fresh»)) (m .«values_fresh» + 1) (m .«values_fresh»);
-              free = pick (eqb (m .«values_len») (m .«values_fresh»)) (m .«values_free» .0) (valueAt (m .«next_value») y);
-            };
-            members = membersOf m;
-            key = put (keyAt (m .«key_index»)) y key;
-            next = put (put (valueAt (m .«next_index»)) tail y) y (1024 + key);
-            prev = put (put (valueAt (m .«previous_index»)) y tail) (1024 + key) y;
-            size = put (at (m .length)) key (at (m .length) key + 1);
-          }) is
-          (links-eq (linksOf r) _
-          (places-eq (roundsOf r) _
-          (value-set₂ (m .«next_value») last (record { 0 = x }) x (record { 0 = 1024 }) 1025 (s .next-value) (omega (arith, rounds-ends)) (omega (arith, place-fits)))
-          (value-set₂ (m .«previous_value») x (record { 0 = last }) 1024 (record { 0 = x }) 1025 (s .previous-value) (omega (arith, place-fits)) (omega arith))
-          refl refl f u)
-          refl
-          (key-set (m .«key_index») x (record { 0 = key }) (rw (s .key-index) place-fits))
-          (value-set₂ (m .«next_index») tail (record { 0 = x }) x (record { 0 = 1024 + key }) 1280 (s .next-index) tail-in (omega (arith, place-fits)))
-          (value-set₂ (m .«previous_index») x (record { 0 = tail }) (1024 + key) (record { 0 = x }) 1280 (s .previous-index) (omega (arith, place-fits)) (omega (arith, key-fits)))
-          (at-set (m .length) key (at (m .length) key + 1) (rw (s .lengths) key-fits)))
+          round-stored m x key v (m .«values_len» + 1) fresh (record { 0 = free }) t s place-fits key-fits (rounds-ends .1) tail-in
+          ∙ rw (f, u) (ap (λ (y : ℕ). round-links m y key v (m .«values_len» + 1) (pick (eqb (m .«values_len») (m .«values_fresh»)) (m .«values_fresh» + 1) (m .«values_fresh»))
+          (record { 0 = pick (eqb (m .«values_len») (m .«values_fresh»)) (m .«values_free» .0) (valueAt (m .«next_value») y) }) t) is)
 
       abbrev vs : List ℕ
       vs = order (roundsOf m)

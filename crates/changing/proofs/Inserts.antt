@@ -1,12 +1,12 @@
 -- The steps of `insert` and `insert_all`. Assumes nothing.
-use Prim.Native.Nat.{ℕ, _+_, _≤_, _<_, min}
+use Prim.Native.Nat.{ℕ, _+_, _≤_, _<_}
 use mathlib.Core.Path.{_≡_, refl, sym, ap, _∙_}
 use mathlib.Core.Bool.{true, false}
-use mathlib.Core.List.{List, [], _∷_, _++_, map}
+use mathlib.Core.List.{List, map}
 use borrow.Author.Tests.{lt-ltb, le-ltb}
 use lib.ListN.{length}
 use Rattle.steps.specs.State as St
-use Rattle.steps.specs.State.{State, Pair, rounds, others, add, replace, full, crowded, maxRounds, maxMembers, maxTaken}
+use Rattle.steps.specs.State.{State, rounds, others, add, replace, full, crowded, maxRounds, maxMembers}
 use Rattle.steps.specs.Call.{refused, none, round, insert, insert-all}
 use Rattle.steps.specs.Call as C
 use Rattle.steps.specs.Step.{step, checks, act, say, write, over, short, first}
@@ -16,12 +16,10 @@ use Rattle.links.specs.Path.{walk}
 use Rattle.multimap.specs.Map.{at, valueAt, pairs, members, stateOf}
 use Rattle.multimap.specs.WellLinked.{WellLinked, linked}
 use Rattle.multimap.specs.declared.ListOrderedMultimap.{ListOrderedMultimap}
-use Rattle.multimap.proofs.States.{Known, Unknown, is-full, not-full, is-crowded, not-crowded}
-use Rattle.multimap.proofs.Stores.{mem-count}
-use Rattle.changing.specs.Adding.{Open, AddedTo, Posted}
-use Rattle.changing.specs.Strike.{Member, Emptied}
-use Rattle.changing.proofs.Records.{walked, its-rounds, how-many, first-round}
-use Rattle.changing.proofs.Removes.{same-pairs, no-rounds}
+use Rattle.multimap.proofs.States.{Unknown, is-full, not-full, is-crowded, not-crowded}
+use Rattle.multimap.proofs.Records.{Member, first-round}
+use Rattle.changing.specs.Adding.{Ready, AddedTo, Posted}
+use Rattle.changing.specs.Strike.{Emptied}
 
 -- ---- the steps, case by case
 
@@ -34,7 +32,7 @@ module _ (k v : ℕ) (s : State) where
   unfolding step checks
   step-crowded p f c = rw (p, f, c)
 
-  step-known : St.present k s ≡ true → step (insert k v) s ≡ (say (first (rounds k (s .pairs))), replace k v s)
+  pub step-known : St.present k s ≡ true → step (insert k v) s ≡ (say (first (rounds k (s .pairs))), replace k v s)
   unfolding step checks act
   step-known p = rw (p, p)
 
@@ -68,25 +66,16 @@ module _ (k v : ℕ) (s : State) where
 -- ---- the map
 
 -- a member whose record was emptied is ready for a round
-pub open-emptied : (m : ListOrderedMultimap) (x : ℕ) (o : ListOrderedMultimap) → Emptied m x o → Open o x
-open-emptied m x o d = record { chained = d .chained; here = d .member; others = d .some; index = d .index; room = d .room }
+pub ready-emptied : (m : ListOrderedMultimap) (x : ℕ) (o : ListOrderedMultimap) → Emptied m x o → Ready o x
+ready-emptied m x o d = record { chained = d .chained; here = d .member; others = d .some; index = d .index; room = d .room }
 
 module _ (k v : ℕ) (m : ListOrderedMultimap) (g : WellLinked m) where
   -- the member place x has the number k
-  module _ (x : ℕ) (u : Known m k x) where
-    pub member-known : Member m x
-    member-known = record { linked = g; inside = u .here }
-
-    rounds-of : rounds k (pairs m) ≡ rounds (at (m .keys) x) (pairs m)
-    rounds-of = ap (λ (n : ℕ). rounds n (pairs m)) (sym (u .number))
-
-    many : length (rounds k (pairs m)) ≡ at (m .length) x
-    many = ap length rounds-of ∙ how-many m x member-known
-
+  module _ (x : ℕ) (u : Member m k x) where
     pub insert-all-short : (out : List ℕ) → length out < at (m .length) x → Does linked (insert-all k v out) m (write (refused 3) out) m
     insert-all-short out e =
         does-refuse linked (insert-all k v out) m 3 g
-        (step-all-short k v (stateOf m) out (u .present) (lt-ltb (length out) (length (rounds k (pairs m))) (rw many e)))
+        (step-all-short k v (stateOf m) out (u .present) (lt-ltb (length out) (length (rounds k (pairs m))) (rw (u .many) e)))
 
     module _ (o : ListOrderedMultimap) (d : Emptied m x o) (r : ListOrderedMultimap) (a : AddedTo o x v r) where
       number : at (o .keys) x ≡ k
@@ -101,7 +90,7 @@ module _ (k v : ℕ) (m : ListOrderedMultimap) (g : WellLinked m) where
       pub insert-known : Does linked (insert k v) m (say (round (at (m .values) (valueAt (m .«next_index») (1024 + x))))) r
       insert-known =
           let h : ℕ = valueAt (m .«next_index») (1024 + x) in
-          let e : first (rounds k (pairs m)) ≡ round (at (m .values) h) = ap first rounds-of ∙ first-round m x member-known in
+          let e : first (rounds k (pairs m)) ≡ round (at (m .values) h) = first-round m g k x u in
           does-change linked (insert k v) m (say (round (at (m .values) h))) (replace k v (stateOf m)) r refl refl
           (step-known k v (stateOf m) (u .present) ∙ rw e) state (a .linked)
 
@@ -110,44 +99,40 @@ module _ (k v : ℕ) (m : ListOrderedMultimap) (g : WellLinked m) where
           → Does linked (insert-all k v out) m (write (C.count (at (m .length) x)) last) r
       insert-all-known out last room copied =
           let next : (ℕ → ℕ) = valueAt (m .«next_index») in
-          let fits : short out (rounds k (pairs m)) ≡ false = le-ltb (length out) (length (rounds k (pairs m))) (rw many room) in
-          let w : map (at (m .values)) (walk next (next (1024 + x)) (at (m .length) x)) ≡ rounds k (pairs m) =
-          rw (walked m x member-known) (sym (rounds-of ∙ its-rounds m x member-known)) in
+          let fits : short out (rounds k (pairs m)) ≡ false = le-ltb (length out) (length (rounds k (pairs m))) (rw (u .many) room) in
+          let w : map (at (m .values)) (walk next (next (1024 + x)) (at (m .length) x)) ≡ rounds k (pairs m) = rw (u .walked) (sym (u .rounds)) in
           let e : last ≡ over (rounds k (pairs m)) out = copied ∙ ap (λ (l : List ℕ). over l out) w in
           does-change linked (insert-all k v out) m (write (C.count (at (m .length) x)) last) (replace k v (stateOf m)) r refl refl
-          (step-all-known k v (stateOf m) out (u .present) fits ∙ rw (e, many)) state (a .linked)
+          (step-all-known k v (stateOf m) out (u .present) fits ∙ rw (e, u .many)) state (a .linked)
 
   -- no member has it
   module _ (p : ℕ) (u : Unknown m k p) where
-    none-yet : rounds k (pairs m) ≡ []
-    none-yet = no-rounds k m g (λ j i e. u .new j (mem-count j _ i) e)
-
     replaced : replace k v (stateOf m) ≡ add k v (stateOf m)
-    replaced = rw (same-pairs k m g (λ j i e. u .new j (mem-count j _ i) e))
+    replaced = rw (u .nobody .others)
 
     module _ (full : maxRounds ≤ m .«values_len») where
       pub insert-full : Does linked (insert k v) m (say (refused 1)) m
-      insert-full = does-refuse linked (insert k v) m 1 g (step-full k v (stateOf m) (u .present) (is-full m full))
+      insert-full = does-refuse linked (insert k v) m 1 g (step-full k v (stateOf m) (u .nobody .absent) (is-full m full))
 
       pub insert-all-full : (out : List ℕ) → Does linked (insert-all k v out) m (write (refused 1) out) m
-      insert-all-full out = does-refuse linked (insert-all k v out) m 1 g (step-all-full k v (stateOf m) out (u .present) (is-full m full))
+      insert-all-full out = does-refuse linked (insert-all k v out) m 1 g (step-all-full k v (stateOf m) out (u .nobody .absent) (is-full m full))
 
     module _ (room : m .«values_len» < maxRounds) where
       module _ (many : maxMembers ≤ m .«keys_len») where
         pub insert-crowded : Does linked (insert k v) m (say (refused 2)) m
-        insert-crowded = does-refuse linked (insert k v) m 2 g (step-crowded k v (stateOf m) (u .present) (not-full m room) (is-crowded m many))
+        insert-crowded = does-refuse linked (insert k v) m 2 g (step-crowded k v (stateOf m) (u .nobody .absent) (not-full m room) (is-crowded m many))
 
         pub insert-all-crowded : (out : List ℕ) → Does linked (insert-all k v out) m (write (refused 2) out) m
         insert-all-crowded out =
-            does-refuse linked (insert-all k v out) m 2 g (step-all-crowded k v (stateOf m) out (u .present) (not-full m room) (is-crowded m many))
+            does-refuse linked (insert-all k v out) m 2 g (step-all-crowded k v (stateOf m) out (u .nobody .absent) (not-full m room) (is-crowded m many))
 
       module _ (spare : m .«keys_len» < maxMembers) (r : ListOrderedMultimap) (a : Posted m k v r) where
         pub insert-new : Does linked (insert k v) m (say none) r
         insert-new =
             does-change linked (insert k v) m (say none) (replace k v (stateOf m)) r refl refl
-            (step-new k v (stateOf m) (u .present) (not-full m room) (not-crowded m spare) ∙ rw none-yet) (a .state ∙ sym replaced) (a .linked)
+            (step-new k v (stateOf m) (u .nobody .absent) (not-full m room) (not-crowded m spare) ∙ rw (u .nobody .rounds)) (a .state ∙ sym replaced) (a .linked)
 
         pub insert-all-new : (out : List ℕ) → Does linked (insert-all k v out) m (write (C.count 0) out) r
         insert-all-new out =
             does-change linked (insert-all k v out) m (write (C.count 0) out) (replace k v (stateOf m)) r refl refl
-            (step-all-new k v (stateOf m) out (u .present) (not-full m room) (not-crowded m spare) ∙ rw none-yet) (a .state ∙ sym replaced) (a .linked)
+            (step-all-new k v (stateOf m) out (u .nobody .absent) (not-full m room) (not-crowded m spare) ∙ rw (u .nobody .rounds)) (a .state ∙ sym replaced) (a .linked)

@@ -8,26 +8,24 @@ use lib.Dec.{eqb}
 use lib.ListN.{length, set, length-set, length-append}
 use lib.Seq.{getD-set-same, getD-set-other}
 use Rattle.links.specs.Path.{pick, count}
-use Rattle.links.specs.Places.{Places, Linked, put, order, vacancy}
+use Rattle.links.specs.Places.{order, vacancy}
 use Rattle.links.specs.Links.{Links, Chained, recordIn, joined}
 use Rattle.links.proofs.Paths.{same-or-not, count-append, count-same, count-other}
-use Rattle.links.proofs.Lists.{length-order, vacancy-fits, first-in, last-in, at-most-root}
+use Rattle.links.proofs.Lists.{length-order, vacancy-fits, first-fits, last-fits}
 use Rattle.links.proofs.Chains.{joined-order, joined-off, joined-chained}
 use Rattle.index.specs.Table.{Holds}
 use Rattle.index.proofs.Table.{reread, relist}
 use Rattle.index.proofs.Adds.{added}
 use Rattle.index.specs.declared.KeyPlace.{KeyPlace}
-use Rattle.multimap.specs.Map.{at, keyAt, valueAt, pairAt, pairs, members, roundsOf, membersOf, linksOf}
+use Rattle.multimap.specs.Map.{at, keyAt, pairAt, pairs, members, roundsOf, membersOf, linksOf}
 use Rattle.multimap.specs.declared.ListOrderedMultimap.{ListOrderedMultimap}
-use Rattle.multimap.proofs.Stores.{at-set, key-set₂, value-set, Sized, places-eq, links-eq, map-same, map-append, mem-count, count-mem}
-use Rattle.changing.specs.Adding.{Open, Joins, Joined, lastKey}
+use Rattle.multimap.proofs.Stores.{Sized, map-same, map-append, mem-count, count-mem}
+use Rattle.multimap.proofs.Additions.{with-member, member-links, member-stored}
+use Rattle.changing.specs.Adding.{Ready, Joins, Joined, lastKey}
 
--- where the stores go: the first place and the last of a list, or its end
-pub ends-fit : (l : Places) → Linked l → (l .next (l .root) ≤ l .root) × (l .prev (l .root) ≤ l .root)
-ends-fit l g = (at-most-root l g (l .next (l .root)) (first-in l g), at-most-root l g (l .prev (l .root)) (last-in l g))
-
+-- where the stores go
 pub members-ends : (m : ListOrderedMultimap) (k p : ℕ) → Joins m k p → (keyAt (m .«next_key») 256 ≤ 256) × (keyAt (m .«previous_key») 256 ≤ 256)
-members-ends m k p h = ends-fit (membersOf m) (h .linked .chained .members)
+members-ends m k p h = (first-fits (membersOf m) (h .linked .chained .members), last-fits (membersOf m) (h .linked .chained .members))
 
 pub new-key-fits : (m : ListOrderedMultimap) (k p key : ℕ) → Joins m k p → key ≡ vacancy (membersOf m) → key < 256
 new-key-fits m k p key h is = rw is (vacancy-fits (membersOf m) (h .linked .chained .members) (h .spare))
@@ -44,27 +42,7 @@ module _ (m : ListOrderedMultimap) (k p : ℕ) (h : Joins m k p) (s : Sized m) (
 
   -- the map with the stores
   abbrev r : ListOrderedMultimap
-  r =
-      record {
-        keys = set (m .keys) key k;
-        length = set (m .length) key 0;
-        «next_key» = set (set (m .«next_key») last (record { 0 = key })) key (record { 0 = 256 });
-        «previous_key» = set (set (m .«previous_key») key (record { 0 = last })) 256 (record { 0 = key });
-        values = m .values;
-        «key_index» = m .«key_index»;
-        «next_value» = m .«next_value»;
-        «previous_value» = m .«previous_value»;
-        «next_index» = set (m .«next_index») (1024 + key) (record { 0 = 1024 + key });
-        «previous_index» = set (m .«previous_index») (1024 + key) (record { 0 = 1024 + key });
-        index = set (m .index) p key;
-        «keys_len» = m .«keys_len» + 1;
-        «keys_fresh» = fresh;
-        «keys_free» = record { 0 = free };
-        «values_len» = m .«values_len»;
-        «values_fresh» = m .«values_fresh»;
-        «values_free» = m .«values_free»;
-        taken = m .taken;
-      }
+  r = with-member m key k (m .«keys_len» + 1) fresh (record { 0 = free }) (set (m .index) p key)
 
   fits : key < 256
   fits = new-key-fits m k p key h is
@@ -74,30 +52,9 @@ module _ (m : ListOrderedMultimap) (k p : ℕ) (h : Joins m k p) (s : Sized m) (
 
   links : linksOf r ≡ joined (linksOf m)
   links =
-      subst (λ (y : ℕ). linksOf r ≡ record {
-        rounds = roundsOf m;
-        members = record {
-          next = put (put (keyAt (m .«next_key»)) last y) y 256;
-          prev = put (put (keyAt (m .«previous_key»)) y last) 256 y;
-          root = 256;
-          len = m .«keys_len» + 1;
-          fresh = pick (eqb (m .«keys_len») (m .«keys_fresh»)) (m .«keys_fresh» + 1) (m .«keys_fresh»);
-          free = pick (eqb (m .«keys_len») (m .«keys_fresh»)) (m .«keys_free» .0) (keyAt (m .«next_key») y);
-        };
-        key = keyAt (m .«key_index»);
-        next = put (valueAt (m .«next_index»)) (1024 + y) (1024 + y);
-        prev = put (valueAt (m .«previous_index»)) (1024 + y) (1024 + y);
-        size = put (at (m .length)) y 0;
-      }) is
-      (links-eq (linksOf r) _ refl
-      (places-eq (membersOf r) _
-      (key-set₂ (m .«next_key») last (record { 0 = key }) key (record { 0 = 256 }) 257 (s .next-key) (omega (arith, members-ends m k p h)) (omega (arith, fits)))
-      (key-set₂ (m .«previous_key») key (record { 0 = last }) 256 (record { 0 = key }) 257 (s .previous-key) (omega (arith, fits)) (omega arith))
-      refl refl f u)
-      refl
-      (value-set (m .«next_index») (1024 + key) (record { 0 = 1024 + key }) (rw (s .next-index) (omega (arith, fits))))
-      (value-set (m .«previous_index») (1024 + key) (record { 0 = 1024 + key }) (rw (s .previous-index) (omega (arith, fits))))
-      (at-set (m .length) key 0 (rw (s .lengths) fits)))
+      member-stored m key k (m .«keys_len» + 1) fresh (record { 0 = free }) (set (m .index) p key) s fits (members-ends m k p h .1)
+      ∙ rw (f, u) (ap (λ (y : ℕ). member-links m y k (m .«keys_len» + 1) (pick (eqb (m .«keys_len») (m .«keys_fresh»)) (m .«keys_fresh» + 1) (m .«keys_fresh»))
+      (record { 0 = pick (eqb (m .«keys_len») (m .«keys_fresh»)) (m .«keys_free» .0) (keyAt (m .«next_key») y) }) (m .index)) is)
 
   joiners : order (membersOf r) ≡ ks ++ (key ∷ [])
   joiners =
@@ -132,7 +89,7 @@ module _ (m : ListOrderedMultimap) (k p : ℕ) (h : Joins m k p) (s : Sized m) (
       relist (rw (joiners, length-append) (omega (arith, long))) to back
       (added (m .index) (r .keys) ks p key kept long fits (λ i. off key (mem-count key ks i) refl) apart (rw number (h .vacant)))
 
-  ready : Open r key
+  ready : Ready r key
   ready =
       record {
         chained = subst Chained (sym links) (joined-chained (linksOf m) (h .linked .chained) (h .spare));

@@ -1,11 +1,11 @@
+-- Laws that belong to no one function.
 pub mod Joins
 pub mod Adds
 pub mod Posts
-pub mod Lists
-pub mod Turns
+pub mod Stretches
+pub mod Strikes
 pub mod Sweeps
-pub mod Copies
-pub mod Settle
+pub mod Leaving
 pub mod Records
 pub mod Removes
 pub mod Pops

@@ -2,7 +2,7 @@
 use Prim.Native.Nat.{ℕ, suc, _-_, _<_}
 use mathlib.Core.Path.{_≡_, refl, sym, ap, _∙_, subst, fun-ext}
 use mathlib.Core.Logic.{_≢_, ⊎-elim}
-use mathlib.Core.Bool.{Bool, true, false, cond, not, _&&_, _||_}
+use mathlib.Core.Bool.{Bool, true, false, cond, not, _&&_, _||_, Bool·not-not}
 use mathlib.Core.List.{List, [], _∷_, _++_, map, append-nil, dropLast}
 use mathlib.Core.Option.{some}
 use native.Mathlib.Omega.{arith}
@@ -15,29 +15,29 @@ use Rattle.steps.specs.Call.{Call, popped, none, pop-front, pop-back}
 use Rattle.steps.specs.Step.{step, checks, act, say}
 use Rattle.steps.specs.Trace.{Does}
 use Rattle.steps.proofs.Doing.{packs, does-stay, does-change}
-use Rattle.steps.proofs.Filter.{any-append}
-use Rattle.links.specs.Path.{count, keep, without, walk}
+use Rattle.steps.proofs.Filter.{filter-fuse, any-append}
+use Rattle.links.specs.Path.{count, keep, without, strip, walk}
 use Rattle.links.specs.Places.{order}
 use Rattle.links.specs.Links.{recordIn, recordOf}
-use Rattle.links.proofs.Paths.{same-or-not, keep-all, keep-inside, count-same, count-append, Split, split-at, without-split, path-end}
-use Rattle.links.proofs.Lists.{in-array, order-once, length-order}
+use Rattle.links.proofs.Paths.{same-or-not, keep-all, keep-inside, count-same, count-append, Split, split-at, path-end}
+use Rattle.links.proofs.Lists.{in-array, order-without, length-order}
+use Rattle.links.proofs.Bare.{bare-order}
 use Rattle.multimap.specs.Map.{at, keyAt, valueAt, pairAt, pairs, members, roundsOf, membersOf, linksOf, stateOf}
 use Rattle.multimap.specs.WellLinked.{WellLinked, linked}
 use Rattle.multimap.specs.declared.ListOrderedMultimap.{ListOrderedMultimap}
-use Rattle.multimap.proofs.Stores.{length-pairs, map-append}
-use Rattle.changing.specs.Strike.{strip, Stretch, Struck, Round}
+use Rattle.multimap.proofs.Stores.{map-append}
+use Rattle.changing.specs.Strike.{Stretch, Struck, RoundPlace}
 use Rattle.changing.specs.Sweep.{idle, Sweepable, Swept}
 use Rattle.changing.specs.RemovingAnswer.{poppedOf, rest, PoppedAt}
 use Rattle.changing.specs.declared.removing.Popped.{Popped}
-use Rattle.changing.specs.declared.removing.Popped.the-variants as P
-use Rattle.changing.proofs.Lists.{filter-fuse}
-use Rattle.changing.proofs.Settle.{has-size, still, size-o, struck-sound, settled-well, settled-state, all-have, cover-one}
+use Rattle.changing.specs.declared.removing.Popped.the-variants as A
+use Rattle.changing.proofs.Leaving.{has-size, member-still, length-now, struck-sound, left-linked, left-state, all-have, leaves-one}
 
 -- ---- the state
 
 -- the pair p leaves P, and ps are the others: keeping these is what the step does
-off : (s : State) (p : Pair) (ps : List Pair) → filter (λ j. has j (s .pairs)) (s .members) ≡ s .members → ((j : ℕ) → has j (s .pairs) ≡ (of j p || has j ps)) → keeping ps s ≡ remove-pair p ps s
-off s p ps all h = ap (λ (l : List ℕ). record { pairs = ps; members = l; taken = s .taken }) (go (has (p .key) ps) refl)
+keeping-others : (s : State) (p : Pair) (ps : List Pair) → filter (λ j. has j (s .pairs)) (s .members) ≡ s .members → ((j : ℕ) → has j (s .pairs) ≡ (of j p || has j ps)) → keeping ps s ≡ remove-pair p ps s
+keeping-others s p ps all h = ap (λ (l : List ℕ). record { pairs = ps; members = l; taken = s .taken }) (go (has (p .key) ps) refl)
   where
     others : (j : ℕ) → eqb j (p .key) ≡ false → has j ps ≡ has j (s .pairs)
     others j e = sym (h j ∙ ap (λ (b : Bool). b || has j ps) e)
@@ -62,16 +62,12 @@ off s p ps all h = ap (λ (l : List ℕ). record { pairs = ps; members = l; take
 
 -- ---- the round in the place x leaves
 
-not-not : (b : Bool) → not (not b) ≡ b
-not-not true = refl
-not-not false = refl
-
 or-swap : (a b c : Bool) → (a || (b || c)) ≡ (b || (a || c))
 or-swap true true c = refl
 or-swap true false c = refl
 or-swap false b c = refl
 
-module _ (m : ListOrderedMultimap) (x : ℕ) (h : Round m x) where
+module _ (m : ListOrderedMultimap) (x : ℕ) (h : RoundPlace m x) where
   abbrev g : WellLinked m
   g = h .linked
 
@@ -85,14 +81,14 @@ module _ (m : ListOrderedMultimap) (x : ℕ) (h : Round m x) where
   place-fits = in-array (roundsOf m) (g .chained .rounds) x (h .inside)
 
   -- the place of its member
-  abbrev K : ℕ
-  K = keyAt (m .«key_index») x
+  abbrev place : ℕ
+  place = keyAt (m .«key_index») x
 
-  K-in : 0 < count K (order (membersOf m))
-  K-in = g .chained .keys x (h .inside)
+  place-in : 0 < count place (order (membersOf m))
+  place-in = g .chained .keys x (h .inside)
 
   pub key-fits : keyAt (m .«key_index») x < 256
-  key-fits = in-array (membersOf m) (g .chained .members) K K-in
+  key-fits = in-array (membersOf m) (g .chained .members) place place-in
 
   pub round-stretch : Stretch false m x 1
   round-stretch =
@@ -104,8 +100,7 @@ module _ (m : ListOrderedMultimap) (x : ℕ) (h : Round m x) where
   others-have j =
       let p : Split x vs = split-at x vs (h .inside) in
       let f : ℕ → Pair = pairAt m in
-      let w : without x vs ≡ p .front ++ p .back =
-      ap (without x) (p .whole) ∙ without-split x (p .front) (p .back) (λ q. omega (arith, order-once (roundsOf m) (g .chained .rounds) q, ap (count q) (p .whole))) in
+      let w : without x vs ≡ p .front ++ p .back = order-without (roundsOf m) (g .chained .rounds) (p .front) x (p .back) (p .whole) in
       ap (λ (l : List ℕ). has j (map f l)) (p .whole) ∙ ap (has j) (map-append f (p .front) (x ∷ p .back)) ∙ any-append (of j) (map f (p .front)) (map f (x ∷ p .back))
       ∙ or-swap (has j (map f (p .front))) (of j (f x)) (has j (map f (p .back)))
       ∙ ap (λ (b : Bool). of j (f x) || b)
@@ -114,44 +109,44 @@ module _ (m : ListOrderedMultimap) (x : ℕ) (h : Round m x) where
   module _ (o : ListOrderedMultimap) (s : Struck m (x ∷ []) o) where
     pub sweepable : Sweepable o (keyAt (m .«key_index») x) 1
     sweepable =
-        let p : Split K (order (membersOf o)) = split-at K (order (membersOf o)) (rw (ap order (s .kept .members)) K-in) in
+        let p : Split place (order (membersOf o)) = split-at place (order (membersOf o)) (rw (ap order (s .kept .members)) place-in) in
         record { sound = struck-sound m g (x ∷ []) o s; front = p .front; back = p .back; whole = p .whole }
 
     -- the other members keep their rounds
-    others : (j : ℕ) → 0 < count j (order (membersOf o)) → j ≢ K → at (o .length) j ≢ 0
+    others : (j : ℕ) → 0 < count j (order (membersOf o)) → j ≢ place → at (o .length) j ≢ 0
     others j i n e =
         let i′ : 0 < count j (order (membersOf m)) = rw (ap order (s .kept .members)) at i in
         let a : recordOf key j (order (roundsOf o)) ≡ recordIn (linksOf m) j =
         ap (recordOf key j) (s .left)
         ∙ keep-inside (λ q. eqb (key q) j) (λ q. not (eqb q x)) vs (λ q u. ap not (ne-eqb q x (λ v. n (sym (eqb-true (key q) j u) ∙ ap key v)))) in
-        omega (arith, g .some j i′, ap length a, size-o m g (x ∷ []) o s j i′, e)
+        omega (arith, g .some j i′, ap length a, length-now m g (x ∷ []) o s j i′, e)
 
-    gone : eqb (at (o .length) K) 0 ≡ not (has (pairAt m x .key) (rest m x))
+    gone : eqb (at (o .length) place) 0 ≡ not (has (pairAt m x .key) (rest m x))
     gone =
-        let z : has (at (m .keys) K) (map (pairAt m) (order (roundsOf o))) ≡ not (eqb (at (o .length) K) 0) =
-        has-size m g K K-in (order (roundsOf o)) (still m g (x ∷ []) o s) ∙ ap (λ (n : ℕ). not (eqb n 0)) (sym (size-o m g (x ∷ []) o s K K-in)) in
-        sym (not-not (eqb (at (o .length) K) 0))
+        let z : has (at (m .keys) place) (map (pairAt m) (order (roundsOf o))) ≡ not (eqb (at (o .length) place) 0) =
+        has-size m g place place-in (order (roundsOf o)) (member-still m g (x ∷ []) o s) ∙ ap (λ (n : ℕ). not (eqb n 0)) (sym (length-now m g (x ∷ []) o s place place-in)) in
+        sym (Bool·not-not (eqb (at (o .length) place) 0))
         ∙ ap not (sym z ∙ ap (λ (l : List ℕ). has (pairAt m x .key) (map (pairAt m) l)) (s .left))
 
     -- whichever members have left, so that those with a round are there
-    module _ (us : List ℕ) (r : ListOrderedMultimap) (w : Swept o us r) (cover : strip us (order (membersOf o)) ≡ keep (λ j. not (eqb (at (o .length) j) 0)) (order (membersOf o))) where
-      taken-out : (b : Bool) → eqb (at (o .length) K) 0 ≡ b → PoppedAt m x (P.Pair (at (m .keys) K) (at (m .values) x) b) r
+    module _ (us : List ℕ) (r : ListOrderedMultimap) (w : Swept o us r) (leavers : strip us (order (membersOf o)) ≡ keep (λ j. not (eqb (at (o .length) j) 0)) (order (membersOf o))) where
+      taken-out : (b : Bool) → eqb (at (o .length) place) 0 ≡ b → PoppedAt m x (A.Pair (at (m .keys) place) (at (m .values) x) b) r
       taken-out b e =
           record {
-            answer = ap (popped (at (m .keys) K) (at (m .values) x)) (sym e ∙ gone);
+            answer = ap (popped (at (m .keys) place) (at (m .values) x)) (sym e ∙ gone);
             state =
-                settled-state m g (x ∷ []) o s us r w cover ∙ ap (λ (l : List ℕ). keeping (map (pairAt m) l) (stateOf m)) (s .left)
-                ∙ off (stateOf m) (pairAt m x) (rest m x) (all-have m g) others-have;
-            linked = settled-well m g (x ∷ []) o s us r w cover;
+                left-state m g (x ∷ []) o s us r w leavers ∙ ap (λ (l : List ℕ). keeping (map (pairAt m) l) (stateOf m)) (s .left)
+                ∙ keeping-others (stateOf m) (pairAt m x) (rest m x) (all-have m g) others-have;
+            linked = left-linked m g (x ∷ []) o s us r w leavers;
           }
 
     -- it was the member's last round
     pub popped-last : at (o .length) (keyAt (m .«key_index») x) ≡ 0 → (r : ListOrderedMultimap) → Swept o (idle o (keyAt (m .«key_index») x) 1) r
-        → PoppedAt m x (P.Pair (at (m .keys) (keyAt (m .«key_index») x)) (at (m .values) x) true) r
-    popped-last e r w = taken-out (idle o K 1) r w (cover-one (at (o .length)) K (order (membersOf o)) others) true (eq-eqb (at (o .length) K) 0 e)
+        → PoppedAt m x (A.Pair (at (m .keys) (keyAt (m .«key_index») x)) (at (m .values) x) true) r
+    popped-last e r w = taken-out (idle o place 1) r w (leaves-one (at (o .length)) place (order (membersOf o)) others) true (eq-eqb (at (o .length) place) 0 e)
 
     -- it was not: nobody leaves
-    pub popped-one : at (o .length) (keyAt (m .«key_index») x) ≢ 0 → PoppedAt m x (P.Pair (at (m .keys) (keyAt (m .«key_index») x)) (at (m .values) x) false) o
+    pub popped-one : at (o .length) (keyAt (m .«key_index») x) ≢ 0 → PoppedAt m x (A.Pair (at (m .keys) (keyAt (m .«key_index») x)) (at (m .values) x) false) o
     popped-one e =
         let stays : Swept o [] o =
         record {
@@ -160,8 +155,8 @@ module _ (m : ListOrderedMultimap) (x : ℕ) (h : Round m x) where
           kept = record { keys = refl; values = refl; key-index = refl; rounds = refl; next-index = refl; previous-index = refl; lengths = refl; taken = refl };
         } in
         let all : (j : ℕ) → 0 < count j (order (membersOf o)) → at (o .length) j ≢ 0 =
-        λ j i. ⊎-elim (λ (u : j ≡ K). λ z. e (ap (at (o .length)) (sym u) ∙ z)) (others j i) (same-or-not j K) in
-        taken-out [] o stays (sym (keep-all (λ j. not (eqb (at (o .length) j) 0)) (order (membersOf o)) (λ j i. ap not (ne-eqb (at (o .length) j) 0 (all j i))))) false (ne-eqb (at (o .length) K) 0 e)
+        λ j i. ⊎-elim (λ (u : j ≡ place). λ z. e (ap (at (o .length)) (sym u) ∙ z)) (others j i) (same-or-not j place) in
+        taken-out [] o stays (sym (keep-all (λ j. not (eqb (at (o .length) j) 0)) (order (membersOf o)) (λ j i. ap not (ne-eqb (at (o .length) j) 0 (all j i))))) false (ne-eqb (at (o .length) place) 0 e)
 
 -- ---- the steps
 
@@ -195,11 +190,7 @@ step-back-none s e = rw e
 
 module _ (m : ListOrderedMultimap) (g : WellLinked m) where
   no-pairs : m .«values_len» ≡ 0 → pairs m ≡ []
-  no-pairs e = go (pairs m) (length-pairs m ∙ e)
-    where
-      go : (l : List Pair) → length l ≡ 0 → l ≡ []
-      go [] u = refl
-      go (p ∷ l) u = absurd (omega arith)
+  no-pairs e = ap (map (pairAt m)) (bare-order (roundsOf m) e)
 
   pub front-none : m .«values_len» ≡ 0 → Does linked pop-front m (say none) m
   front-none e = does-stay linked pop-front m (say none) refl g (step-front-none (stateOf m) (no-pairs e))
@@ -218,10 +209,7 @@ module _ (m : ListOrderedMultimap) (g : WellLinked m) where
     abbrev ws : List ℕ
     ws = order (roundsOf m)
 
-    once : (xs ys : List ℕ) (x : ℕ) → order (roundsOf m) ≡ xs ++ x ∷ ys → without x ws ≡ xs ++ ys
-    once xs ys x e = ap (without x) e ∙ without-split x xs ys (λ q. omega (arith, order-once (roundsOf m) (g .chained .rounds) q, ap (count q) e))
-
-    inside : (xs ys : List ℕ) (x : ℕ) → order (roundsOf m) ≡ xs ++ x ∷ ys → Round m x
+    inside : (xs ys : List ℕ) (x : ℕ) → order (roundsOf m) ≡ xs ++ x ∷ ys → RoundPlace m x
     inside xs ys x e = record { linked = g; inside = omega (arith, ap (count x) e, count-append x xs (x ∷ ys), count-same x ys) }
 
     -- the first
@@ -234,11 +222,11 @@ module _ (m : ListOrderedMultimap) (g : WellLinked m) where
     front : ws ≡ x ∷ ys
     front = let e : m .«values_len» ≡ suc (m .«values_len» - 1) = omega arith in ap (walk (valueAt (m .«next_value»)) x) e
 
-    pub front-round : Round m (valueAt (m .«next_value») 1024)
+    pub front-round : RoundPlace m (valueAt (m .«next_value») 1024)
     front-round = inside [] ys x front
 
     pub front-popped : (a : Popped) (r : ListOrderedMultimap) → PoppedAt m (valueAt (m .«next_value») 1024) a r → Does linked pop-front m (say (poppedOf a)) r
-    front-popped = popped-so pop-front refl x (step-front (stateOf m) (pairAt m x) (rest m x) (ap (map (pairAt m)) (front ∙ ap (λ (l : List ℕ). x ∷ l) (sym (once [] ys x front)))))
+    front-popped = popped-so pop-front refl x (step-front (stateOf m) (pairAt m x) (rest m x) (ap (map (pairAt m)) (front ∙ ap (λ (l : List ℕ). x ∷ l) (sym (order-without (roundsOf m) (g .chained .rounds) [] x ys front)))))
 
     -- the last
     abbrev z : ℕ
@@ -247,11 +235,11 @@ module _ (m : ListOrderedMultimap) (g : WellLinked m) where
     back : (xs : List ℕ) × (ws ≡ xs ++ z ∷ [])
     back = path-end (valueAt (m .«next_value»)) (valueAt (m .«previous_value»)) 1024 ws 1024 (g .chained .rounds .path) (omega (arith, length-order (roundsOf m)))
 
-    pub back-round : Round m (valueAt (m .«previous_value») 1024)
+    pub back-round : RoundPlace m (valueAt (m .«previous_value») 1024)
     back-round = inside (back .0) [] z (back .1)
 
     pub back-popped : (a : Popped) (r : ListOrderedMultimap) → PoppedAt m (valueAt (m .«previous_value») 1024) a r → Does linked pop-back m (say (poppedOf a)) r
     back-popped =
         popped-so pop-back refl z
         (step-back (stateOf m) (pairAt m z) (rest m z)
-        (ap (map (pairAt m)) (back .1 ∙ ap (λ (l : List ℕ). l ++ z ∷ []) (sym (once (back .0) [] z (back .1) ∙ append-nil (back .0)))) ∙ map-append (pairAt m) (without z ws) (z ∷ [])))
+        (ap (map (pairAt m)) (back .1 ∙ ap (λ (l : List ℕ). l ++ z ∷ []) (sym (order-without (roundsOf m) (g .chained .rounds) (back .0) z [] (back .1) ∙ append-nil (back .0)))) ∙ map-append (pairAt m) (without z ws) (z ∷ [])))

@@ -13,20 +13,21 @@ use Rattle.multimap.specs.Map.{at, membersOf, stateOf}
 use Rattle.multimap.specs.WellLinked.{WellLinked, linked}
 use Rattle.multimap.specs.declared.ListOrderedMultimap.{ListOrderedMultimap}
 use Rattle.multimap.proofs.Stores.{any-none}
-use Rattle.multimap.proofs.States.{Known, Unknown, is-full, not-full, is-crowded, not-crowded}
-use Rattle.changing.specs.Adding.{Open, AddedTo, Joins, Joined, Posted, lastKey}
+use Rattle.multimap.proofs.Records.{Member}
+use Rattle.multimap.proofs.States.{Unknown, is-full, not-full, is-crowded, not-crowded}
+use Rattle.changing.specs.Adding.{Ready, AddedTo, Joins, Joined, Posted, lastKey}
 
 module _ (m : ListOrderedMultimap) (k : ℕ) where
   -- a member is ready for a further round
-  pub open-known : (key : ℕ) → WellLinked m → m .«values_len» < maxRounds → Known m k key → Open m key
-  open-known key g room h = record { chained = g .chained; here = h .here; others = λ j i n. g .some j i; index = g .index; room = room }
+  pub ready-known : (key : ℕ) → WellLinked m → m .«values_len» < maxRounds → Member m k key → Ready m key
+  ready-known key g room h = record { chained = g .chained; here = h .member; others = λ j i n. g .some j i; index = g .index; room = room }
 
   -- who is no member can become one
   pub joins-unknown : (p : ℕ) → WellLinked m → m .«values_len» < maxRounds → m .«keys_len» < maxMembers → Unknown m k p → Joins m k p
-  joins-unknown p g room spare h = record { linked = g; spare = spare; room = room; vacant = h .vacant; new = h .new }
+  joins-unknown p g room spare h = record { linked = g; spare = spare; room = room; vacant = h .vacant; new = h .nobody .new }
 
   -- a further round of a member, and the first round of a new one
-  pub posted-known : (key v : ℕ) (r : ListOrderedMultimap) → Known m k key → AddedTo m key v r → Posted m k v r
+  pub posted-known : (key v : ℕ) (r : ListOrderedMultimap) → Member m k key → AddedTo m key v r → Posted m k v r
   posted-known key v r h a = record { linked = a .linked; state = rw (a .pairs, a .members, a .taken, h .number, h .present) }
 
   pub posted-new : (p v : ℕ) (o r : ListOrderedMultimap) → Joins m k p → Joined m k o → AddedTo o (lastKey o) v r → Posted m k v r
@@ -40,19 +41,19 @@ module _ (m : ListOrderedMultimap) (k : ℕ) where
 -- ---- the step of `append`, case by case
 
 module _ (k v : ℕ) (s : State) where
-  step-full : full s ≡ true → step (append k v) s ≡ (say (refused 1), s)
+  pub step-full : full s ≡ true → step (append k v) s ≡ (say (refused 1), s)
   unfolding step checks
   step-full f = rw f
 
-  step-crowded : full s ≡ false → St.present k s ≡ false → crowded s ≡ true → step (append k v) s ≡ (say (refused 2), s)
+  pub step-crowded : full s ≡ false → St.present k s ≡ false → crowded s ≡ true → step (append k v) s ≡ (say (refused 2), s)
   unfolding step checks
   step-crowded f p c = rw (f, p, c)
 
-  step-known : full s ≡ false → St.present k s ≡ true → step (append k v) s ≡ (say (present true), add k v s)
+  pub step-known : full s ≡ false → St.present k s ≡ true → step (append k v) s ≡ (say (present true), add k v s)
   unfolding step checks act
   step-known f p = rw (f, p, p)
 
-  step-new : full s ≡ false → St.present k s ≡ false → crowded s ≡ false → step (append k v) s ≡ (say (present false), add k v s)
+  pub step-new : full s ≡ false → St.present k s ≡ false → crowded s ≡ false → step (append k v) s ≡ (say (present false), add k v s)
   unfolding step checks act
   step-new f p c = rw (f, p, c, p)
 
@@ -61,12 +62,12 @@ module _ (k v : ℕ) (m : ListOrderedMultimap) where
   append-full g h = does-refuse linked (append k v) m 1 g (step-full k v (stateOf m) (is-full m h))
 
   pub append-crowded : (p : ℕ) → WellLinked m → m .«values_len» < maxRounds → Unknown m k p → maxMembers ≤ m .«keys_len» → Does linked (append k v) m (say (refused 2)) m
-  append-crowded p g h u c = does-refuse linked (append k v) m 2 g (step-crowded k v (stateOf m) (not-full m h) (u .present) (is-crowded m c))
+  append-crowded p g h u c = does-refuse linked (append k v) m 2 g (step-crowded k v (stateOf m) (not-full m h) (u .nobody .absent) (is-crowded m c))
 
-  pub append-known : (key : ℕ) (r : ListOrderedMultimap) → m .«values_len» < maxRounds → Known m k key → Posted m k v r → Does linked (append k v) m (say (present true)) r
+  pub append-known : (key : ℕ) (r : ListOrderedMultimap) → m .«values_len» < maxRounds → Member m k key → Posted m k v r → Does linked (append k v) m (say (present true)) r
   append-known key r h u a =
       does-change linked (append k v) m (say (present true)) (add k v (stateOf m)) r refl refl (step-known k v (stateOf m) (not-full m h) (u .present)) (a .state) (a .linked)
 
   pub append-new : (p : ℕ) (r : ListOrderedMultimap) → m .«values_len» < maxRounds → Unknown m k p → m .«keys_len» < maxMembers → Posted m k v r → Does linked (append k v) m (say (present false)) r
   append-new p r h u c a =
-      does-change linked (append k v) m (say (present false)) (add k v (stateOf m)) r refl refl (step-new k v (stateOf m) (not-full m h) (u .present) (not-crowded m c)) (a .state) (a .linked)
+      does-change linked (append k v) m (say (present false)) (add k v (stateOf m)) r refl refl (step-new k v (stateOf m) (not-full m h) (u .nobody .absent) (not-crowded m c)) (a .state) (a .linked)

@@ -1,35 +1,37 @@
--- The record of a member place; all its rounds are struck; and then the member leaves. Assumes nothing.
-use Prim.Native.Nat.{ℕ, zero, suc, _+_, _<_}
+-- The rounds of a member place are all struck; and then the member leaves. Assumes nothing.
+use Prim.Native.Nat.{ℕ, _+_, _<_}
 use mathlib.Core.Path.{_≡_, refl, sym, ap, _∙_, subst}
 use mathlib.Core.Logic.{_≢_}
 use mathlib.Core.Bool.{true, not}
-use mathlib.Core.List.{List, [], map, map-map, append-nil}
+use mathlib.Core.List.{List, [], map, append-nil}
 use native.Mathlib.Omega.{arith}
 use borrow.Author.Tests.{eq-eqb, ne-eqb, eqb-true}
 use lib.Dec.{eqb}
 use lib.ListN.{length, length-map}
 use Rattle.steps.specs.Lists.{filter}
 use Rattle.steps.specs.State.{of, rounds, others, leave}
-use Rattle.steps.specs.Call.{round}
-use Rattle.steps.specs.Step.{first}
 use Rattle.steps.proofs.Filter.{length-split}
-use Rattle.links.specs.Path.{count, keep, without, walk}
+use Rattle.links.specs.Path.{count, keep, without, strip}
 use Rattle.links.specs.Places.{order}
 use Rattle.links.specs.Links.{recordIn, recordOf}
-use Rattle.links.proofs.Paths.{count-same, Split, split-at, keep-same, keep-inside, path-walk}
-use Rattle.links.proofs.Lists.{in-array}
-use Rattle.links.proofs.Chains.{in-record, of-without, record-once}
+use Rattle.links.proofs.Paths.{Split, split-at, keep-same, keep-inside}
+use Rattle.links.proofs.Strips.{keep-neither, strip-those}
+use Rattle.links.proofs.Chains.{in-record, of-without}
 use Rattle.multimap.specs.Map.{at, keyAt, valueAt, pairAt, pairs, members, roundsOf, membersOf, linksOf}
 use Rattle.multimap.specs.declared.ListOrderedMultimap.{ListOrderedMultimap}
+use Rattle.multimap.specs.WellLinked.{WellLinked}
 use Rattle.multimap.proofs.Stores.{length-pairs}
-use Rattle.changing.specs.Strike.{chosen, strip, visited, Stretch, Struck, Member, Emptied}
+use Rattle.multimap.proofs.Records.{Member, member-at, own-round, same-number, head-in, filter-map}
+use Rattle.changing.specs.Strike.{chosen, visited, Stretch, Struck, MemberPlace, Emptied}
 use Rattle.changing.specs.Sweep.{idle, Sweepable, Swept, RecordRemoved}
-use Rattle.changing.proofs.Lists.{filter-map, keep-neither, strip-those, chosen-all}
-use Rattle.changing.proofs.Settle.{same-number, same-member, struck-sound}
+use Rattle.changing.proofs.Strikes.{chosen-all}
+use Rattle.changing.proofs.Leaving.{struck-sound}
 
--- ---- the record of a member place
+-- the place of a member
+pub place-of : (m : ListOrderedMultimap) → WellLinked m → (k x : ℕ) → Member m k x → MemberPlace m x
+place-of m g k x h = record { linked = g; inside = h .member }
 
-module _ (m : ListOrderedMultimap) (k : ℕ) (h : Member m k) where
+module _ (m : ListOrderedMultimap) (k : ℕ) (h : MemberPlace m k) where
   abbrev vs : List ℕ
   vs = order (roundsOf m)
 
@@ -39,75 +41,26 @@ module _ (m : ListOrderedMultimap) (k : ℕ) (h : Member m k) where
   abbrev head : ℕ
   head = valueAt (m .«next_index») (1024 + k)
 
-  abbrev R : List ℕ
-  R = recordIn (linksOf m) k
-
-  pub key-fits : k < 256
-  key-fits = in-array (membersOf m) (h .linked .chained .members) k (h .inside)
-
-  size : at (m .length) k ≡ length R
-  size = h .linked .chained .size k (h .inside)
-
-  -- from the head on, as many places as its length says
-  pub walked : walk (valueAt (m .«next_index»)) (valueAt (m .«next_index») (1024 + k)) (at (m .length) k) ≡ recordIn (linksOf m) k
-  walked =
-      ap (walk (valueAt (m .«next_index»)) head) size
-      ∙ path-walk (valueAt (m .«next_index»)) (valueAt (m .«previous_index»)) (1024 + k) R (1024 + k) (h .linked .chained .chain k (h .inside))
-
-  head-in : 0 < count head R
-  head-in = go (at (m .length) k) refl walked
-    where
-      go : (n : ℕ) → at (m .length) k ≡ n → walk (valueAt (m .«next_index»)) head n ≡ R → 0 < count head R
-      go zero e w = absurd (omega (arith, h .linked .some k (h .inside), size, e))
-      go (suc n) e w = subst (λ (l : List ℕ). 0 < count head l) w (rw (count-same head) (omega arith))
-
-  head-key : key head ≡ k
-  head-key = in-record key k head vs head-in
-
-  pub head-fits : valueAt (m .«next_index») (1024 + k) < 1024
-  head-fits = in-array (roundsOf m) (h .linked .chained .rounds) head (omega (arith, head-in, record-once key k head vs))
-
-  -- its rounds are places of rounds
-  pub record-inside : (q : ℕ) → 0 < count q (walk (valueAt (m .«next_index»)) (valueAt (m .«next_index») (1024 + k)) (at (m .length) k)) → q < 1024
-  record-inside q i = in-array (roundsOf m) (h .linked .chained .rounds) q (omega (arith, ap (count q) walked, record-once key k q vs))
+  -- the member that stands there, and its record
+  pub its-member : Member m (at (m .keys) k) k
+  its-member = member-at m (h .linked) (at (m .keys) k) k (h .inside) refl
 
   pub record-stretch : Stretch true m (valueAt (m .«next_index») (1024 + k)) (at (m .length) k)
   record-stretch =
+      let w = its-member .walked in
+      let own : key head ≡ k = in-record key k head vs (head-in m (h .linked) (at (m .keys) k) k its-member) in
       record {
         chained = h .linked .chained;
         front = [];
         back = [];
-        whole = ap (recordIn (linksOf m)) head-key ∙ sym (append-nil (visited true m head (at (m .length) k)) ∙ walked);
+        whole = ap (recordIn (linksOf m)) own ∙ sym (append-nil (visited true m head (at (m .length) k)) ∙ w);
       }
-
-  own : (q : ℕ) → 0 < count q vs → of (at (m .keys) k) (pairAt m q) ≡ eqb (key q) k
-  own q i = same-member m (h .linked) k (h .inside) q (h .linked .chained .keys q i)
-
-  -- its rounds, in the arrays and in P
-  pub its-rounds : rounds (at (m .keys) k) (pairs m) ≡ map (at (m .values)) (recordIn (linksOf m) k)
-  its-rounds =
-      ap (map (λ p. p .value)) (filter-map (of (at (m .keys) k)) (pairAt m) vs ∙ ap (map (pairAt m)) (keep-same (λ q. of (at (m .keys) k) (pairAt m q)) (λ q. eqb (key q) k) vs own))
-      ∙ map-map (λ p. p .value) (pairAt m) R
-
-  pub how-many : length (rounds (at (m .keys) k) (pairs m)) ≡ at (m .length) k
-  how-many = ap length its-rounds ∙ length-map R (at (m .values)) ∙ sym size
-
-  pub some-round : 0 < at (m .length) k
-  some-round = omega (arith, size, h .linked .some k (h .inside))
-
-  -- its first round
-  pub first-round : first (rounds (at (m .keys) k) (pairs m)) ≡ round (at (m .values) (valueAt (m .«next_index») (1024 + k)))
-  first-round = ap first (its-rounds ∙ ap (map (at (m .values))) (sym walked)) ∙ go (at (m .length) k) some-round
-    where
-      go : (n : ℕ) → 0 < n → first (map (at (m .values)) (walk (valueAt (m .«next_index»)) head n)) ≡ round (at (m .values) head)
-      go zero e = absurd (omega arith)
-      go (suc n) e = refl
 
   -- ---- all its rounds are struck
 
   module _ (o : ListOrderedMultimap) (s : Struck m (chosen [] (visited true m (valueAt (m .«next_index») (1024 + k)) (at (m .length) k))) o) where
     left : order (roundsOf o) ≡ keep (λ q. not (eqb (key q) k)) vs
-    left = s .left ∙ ap (λ (l : List ℕ). strip l vs) (chosen-all (visited true m head (at (m .length) k)) ∙ walked) ∙ strip-those (λ q. eqb (key q) k) vs
+    left = s .left ∙ ap (λ (l : List ℕ). strip l vs) (chosen-all (visited true m head (at (m .length) k)) ∙ its-member .walked) ∙ strip-those (λ q. eqb (key q) k) vs
 
     record-left : (j : ℕ) → recordIn (linksOf o) j ≡ recordOf key j (keep (λ q. not (eqb (key q) k)) vs)
     record-left j = ap (λ (l : List _). recordOf (keyAt l) j (order (roundsOf o))) (s .kept .key-index) ∙ ap (recordOf key j) left
@@ -123,13 +76,13 @@ module _ (m : ListOrderedMultimap) (k : ℕ) (h : Member m k) where
     pairs-left : pairs o ≡ others (at (m .keys) k) (pairs m)
     pairs-left =
         rw (s .kept .keys, s .kept .values, s .kept .key-index)
-        (ap (map (pairAt m)) (left ∙ sym (keep-same (λ q. not (of (at (m .keys) k) (pairAt m q))) (λ q. not (eqb (key q) k)) vs (λ q i. ap not (own q i))))
+        (ap (map (pairAt m)) (left ∙ sym (keep-same (λ q. not (of (at (m .keys) k) (pairAt m q))) (λ q. not (eqb (key q) k)) vs (λ q i. ap not (own-round m (h .linked) k q (h .inside) i))))
         ∙ sym (filter-map (λ p. not (of (at (m .keys) k) p)) (pairAt m) vs))
 
     fewer : o .«values_len» < 1024
     fewer =
         let l = h .linked .chained .rounds in
-        omega (arith, length-pairs o, ap length pairs-left, length-split (of (at (m .keys) k)) (pairs m), length-map (filter (of (at (m .keys) k)) (pairs m)) (λ p. p .value), how-many, some-round, length-pairs m, l .some-used, l .some-fresh)
+        omega (arith, length-pairs o, ap length pairs-left, length-split (of (at (m .keys) k)) (pairs m), length-map (filter (of (at (m .keys) k)) (pairs m)) (λ p. p .value), its-member .many, its-member .some, length-pairs m, l .some-used, l .some-fresh)
 
     pub emptied : Emptied m k o
     emptied =
@@ -149,7 +102,7 @@ module _ (m : ListOrderedMultimap) (k : ℕ) (h : Member m k) where
 
 -- ---- and then it leaves
 
-module _ (m : ListOrderedMultimap) (k : ℕ) (h : Member m k) (e : ListOrderedMultimap) (d : Emptied m k e) where
+module _ (m : ListOrderedMultimap) (k : ℕ) (h : MemberPlace m k) (e : ListOrderedMultimap) (d : Emptied m k e) where
   abbrev ks : List ℕ
   ks = order (membersOf e)
 

@@ -15,18 +15,18 @@ use Rattle.steps.specs.Call as C
 use Rattle.steps.specs.Step.{step, checks, act, say}
 use Rattle.steps.specs.Trace.{Does}
 use Rattle.steps.proofs.Doing.{does-refuse, does-change}
-use Rattle.links.specs.Path.{pick, count, keep}
+use Rattle.links.specs.Path.{pick, count, keep, strip}
 use Rattle.links.specs.Places.{order}
 use Rattle.links.proofs.Paths.{same-or-not, count-same, count-other, Once, keep-same}
-use Rattle.links.proofs.Lists.{order-once, length-order}
+use Rattle.links.proofs.Lists.{order-distinct, length-order}
+use Rattle.links.proofs.Strips.{strip-keep, strip-those}
 use Rattle.multimap.specs.Map.{at, keyAt, valueAt, pairAt, pairs, roundsOf, membersOf, stateOf}
 use Rattle.multimap.specs.WellLinked.{WellLinked, linked}
 use Rattle.multimap.specs.declared.ListOrderedMultimap.{ListOrderedMultimap}
 use Rattle.multimap.proofs.Stores.{length-pairs}
-use Rattle.changing.specs.Strike.{chosen, strip, visited, Stretch, Struck}
+use Rattle.changing.specs.Strike.{chosen, visited, Stretch, Struck}
 use Rattle.changing.specs.Sweep.{idle, Sweepable, Swept}
-use Rattle.changing.proofs.Lists.{strip-keep, strip-those}
-use Rattle.changing.proofs.Settle.{struck-sound, settled-well, settled-state}
+use Rattle.changing.proofs.Leaving.{struck-sound, left-linked, left-state}
 
 -- ---- the lists
 
@@ -134,20 +134,20 @@ module _ (ms : List ℕ) (m : ListOrderedMultimap) (g : WellLinked m) where
       pairs-left : map (pairAt m) (order (roundsOf o)) ≡ kept ms (pairs m)
       pairs-left =
           ap (map (pairAt m)) (s .left)
-          ∙ kept-map (pairAt m) ms vs (λ q. omega (arith, order-once (roundsOf m) (g .chained .rounds) q)) (long ∙ sym (length-order (roundsOf m))) fine
+          ∙ kept-map (pairAt m) ms vs (order-distinct (roundsOf m) (g .chained .rounds)) (long ∙ sym (length-order (roundsOf m))) fine
 
       module _ (r : ListOrderedMultimap) (w : Swept o (idle o (keyAt (o .«next_key») 256) (o .«keys_len»)) r) where
         abbrev us : List ℕ
         us = idle o (keyAt (o .«next_key») 256) (o .«keys_len»)
 
-        cover : strip us (order (membersOf o)) ≡ keep (λ j. not (eqb (at (o .length) j) 0)) (order (membersOf o))
-        cover = strip-those (λ j. eqb (at (o .length) j) 0) (order (membersOf o))
+        leavers : strip us (order (membersOf o)) ≡ keep (λ j. not (eqb (at (o .length) j) 0)) (order (membersOf o))
+        leavers = strip-those (λ j. eqb (at (o .length) j) 0) (order (membersOf o))
 
         now : stateOf r ≡ keeping (kept ms (pairs m)) (stateOf m)
-        now = settled-state m g (chosen ms vs) o s us r w cover ∙ ap (λ (l : List Pair). keeping l (stateOf m)) pairs-left
+        now = left-state m g (chosen ms vs) o s us r w leavers ∙ ap (λ (l : List Pair). keeping l (stateOf m)) pairs-left
 
         pub retained : Does linked (C.retain ms) m (say (C.count (r .«values_len»))) r
         retained =
             let n : length (kept ms (pairs m)) ≡ r .«values_len» = sym (sym (length-pairs r) ∙ ap (λ (t : State). length (t .pairs)) now) in
             does-change linked (C.retain ms) m (say (C.count (r .«values_len»))) (keeping (kept ms (pairs m)) (stateOf m)) r refl refl
-            (step-done ms (stateOf m) as-long fine ∙ ap (λ (y : ℕ). (say (C.count y), keeping (kept ms (pairs m)) (stateOf m))) n) now (settled-well m g (chosen ms vs) o s us r w cover)
+            (step-done ms (stateOf m) as-long fine ∙ ap (λ (y : ℕ). (say (C.count y), keeping (kept ms (pairs m)) (stateOf m))) n) now (left-linked m g (chosen ms vs) o s us r w leavers)

@@ -9,12 +9,11 @@ use native.Mathlib.Numerals.{add-one}
 use borrow.Author.Tests.{eq-eqb, ne-eqb}
 use lib.Dec.{eqb}
 use lib.ListN.{length, getD, set, drop, length-set, drop-of-length-le}
-use lib.Seq.{drop-cons, append-snoc}
-use Rattle.links.specs.Path.{pick, count, keep, without, Path}
+use Rattle.links.specs.Path.{pick, count, keep, without, strip, Path}
 use Rattle.links.specs.Places.{order}
 use Rattle.links.specs.Links.{Links, recordIn, Chained, parted}
-use Rattle.links.proofs.Paths.{count-append, count-same, count-in, without-split, length-keep, path-split, path-start}
-use Rattle.links.proofs.Lists.{length-walk, length-order, order-once, in-array, at-most-root, next-in, prev-in}
+use Rattle.links.proofs.Paths.{count-append, count-same, count-in, length-keep, path-split, path-start}
+use Rattle.links.proofs.Lists.{length-walk, length-order, order-without, in-array, at-most-root, next-in, prev-in}
 use Rattle.links.proofs.Chains.{of-without, in-without, parted-chained, parted-order}
 use Rattle.index.specs.Table.{Holds, Removed}
 use Rattle.index.specs.Table as T
@@ -23,8 +22,7 @@ use Rattle.index.proofs.Without.{without-mem, mem-without}
 use Rattle.multimap.specs.Map.{at, keyAt, membersOf, linksOf}
 use Rattle.multimap.specs.declared.ListOrderedMultimap.{ListOrderedMultimap}
 use Rattle.multimap.proofs.Stores.{key-set, key-set₂, Sized, places-eq, links-eq, mem-count, count-mem}
-use Rattle.changing.specs.Strike.{strip}
-use Rattle.changing.proofs.Lists.{first-of}
+use Rattle.changing.proofs.Stretches.{first-of, at-next, split-next, split-past}
 use Rattle.changing.specs.Sweep.{passed, idle, Sound, Sweepable, MembersOnly, Swept}
 
 -- ---- the stores of a turn
@@ -133,7 +131,9 @@ module _ (o : ListOrderedMultimap) (s : Sized o) (g : Sound o) (x : ℕ) (i : 0 
 
 -- ---- the turns
 
-pub record Passing (m : ListOrderedMultimap) (start turns : ℕ) (h : Sweepable m start turns) (i q : ℕ) (o : ListOrderedMultimap) : Type 0 where
+-- After i turns: the list of members has those that were kept, then those still to be passed, at the first of which the walk is; and letting
+-- leave those of them that have no round comes to what is asked.
+pub record Turned (m : ListOrderedMultimap) (start turns : ℕ) (h : Sweepable m start turns) (i q : ℕ) (o : ListOrderedMultimap) : Type 0 where
   pub some : i ≤ turns
   pub sized : Sized o
   pub sound : Sound o
@@ -153,8 +153,8 @@ module _ (m : ListOrderedMultimap) (start turns : ℕ) (h : Sweepable m start tu
   long : length vs ≡ turns
   long = length-walk (keyAt (m .«next_key»)) start turns
 
-  pub passing-none : Sized m → Passing m start turns h 0 start m
-  passing-none s =
+  pub turned-none : Sized m → Turned m start turns h 0 start m
+  turned-none s =
       record {
         some = omega arith;
         sized = s;
@@ -166,9 +166,9 @@ module _ (m : ListOrderedMultimap) (start turns : ℕ) (h : Sweepable m start tu
         rest = refl;
       }
 
-  module _ (i q : ℕ) (o : ListOrderedMultimap) (t : Passing m start turns h i q o) where
-    pub passing-all : turns ≤ i → Swept m (idle m start turns) o
-    passing-all e =
+  module _ (i q : ℕ) (o : ListOrderedMultimap) (t : Turned m start turns h i q o) where
+    pub turned-all : turns ≤ i → Swept m (idle m start turns) o
+    turned-all e =
         let a : drop i vs ≡ [] = drop-of-length-le vs {i = i} (omega (arith, long)) in
         record {
           sound = t .sound;
@@ -180,14 +180,14 @@ module _ (m : ListOrderedMultimap) (start turns : ℕ) (h : Sweepable m start tu
       abbrev ds : List ℕ
       ds = drop (suc i) vs
 
+      more : i < length vs
+      more = omega (arith, long)
+
       ahead : drop i vs ≡ q ∷ ds
-      ahead =
-          let a : drop i vs ≡ getD vs i 0 ∷ ds = drop-cons vs i 0 (omega (arith, long)) in
-          let b : q ≡ getD vs i 0 = t .here e ∙ rw a in
-          a ∙ ap (λ (y : ℕ). y ∷ ds) (sym b)
+      ahead = at-next vs (h .back) i q 256 more (t .here e)
 
       split : order (membersOf o) ≡ t .front ++ q ∷ (ds ++ h .back)
-      split = t .whole ∙ ap (λ (l : List ℕ). t .front ++ (l ++ h .back)) ahead
+      split = split-next vs (h .back) i q 256 more (t .here e) (t .front) (order (membersOf o)) (t .whole)
 
       pub q-in : 0 < count q (order (membersOf o))
       q-in = omega (arith, ap (count q) split, count-append q (t .front) (q ∷ (ds ++ h .back)), count-same q (ds ++ h .back))
@@ -204,15 +204,15 @@ module _ (m : ListOrderedMultimap) (start turns : ℕ) (h : Sweepable m start tu
       choice : (z : Bool) → f q ≡ z → strip (keep f (drop i vs)) (order (membersOf o)) ≡ strip (pick z (q ∷ keep f ds) (keep f ds)) (order (membersOf o))
       choice z u = ap (λ (l : List ℕ). strip (keep f l) (order (membersOf o))) ahead ∙ ap (λ (z : Bool). strip (pick z (q ∷ keep f ds) (keep f ds)) (order (membersOf o))) u
 
-      pub passing-kept : at (o .length) q ≢ 0 → Passing m start turns h (i + 1) (keyAt (o .«next_key») q) o
-      passing-kept u =
+      pub turned-kept : at (o .length) q ≢ 0 → Turned m start turns h (i + 1) (keyAt (o .«next_key») q) o
+      turned-kept u =
           record {
             some = omega arith;
             sized = t .sized;
             sound = t .sound;
             kept = t .kept;
             front = t .front ++ q ∷ [];
-            whole = rw (add-one i) (split ∙ sym (append-snoc (t .front) q (ds ++ h .back)));
+            whole = split-past vs (h .back) i q 256 more (t .here e) (t .front) (order (membersOf o)) (t .whole);
             here = λ z. rw (add-one i) next-q;
             rest = rw (add-one i) (t .rest ∙ choice false (ne-eqb (at (m .length) q) 0 (λ v. u (size-q ∙ v))));
           }
@@ -221,8 +221,8 @@ module _ (m : ListOrderedMultimap) (start turns : ℕ) (h : Sweepable m start tu
         gone : order (membersOf (r o (t .sized) (t .sound) q q-in closed)) ≡ without q (order (membersOf o))
         gone = left-now o (t .sized) (t .sound) q q-in closed u shut
 
-        pub passing-left : Passing m start turns h (i + 1) (keyAt (o .«next_key») q) (r o (t .sized) (t .sound) q q-in closed)
-        passing-left =
+        pub turned-left : Turned m start turns h (i + 1) (keyAt (o .«next_key») q) (r o (t .sized) (t .sound) q q-in closed)
+        turned-left =
             record {
               some = omega arith;
               sized = sized-now o (t .sized) (t .sound) q q-in closed u shut;
@@ -238,9 +238,7 @@ module _ (m : ListOrderedMultimap) (start turns : ℕ) (h : Sweepable m start tu
                 taken = t .kept .taken;
               };
               front = t .front;
-              whole =
-                  rw (add-one i)
-                  (gone ∙ ap (without q) split ∙ without-split q (t .front) (ds ++ h .back) (λ y. omega (arith, order-once (membersOf o) (t .sound .chained .members) y, ap (count y) split)));
+              whole = rw (add-one i) (gone ∙ order-without (membersOf o) (t .sound .chained .members) (t .front) q (ds ++ h .back) split);
               here = λ z. rw (add-one i) next-q;
               rest = rw (add-one i) (t .rest ∙ choice true (eq-eqb (at (m .length) q) 0 (sym size-q ∙ u)) ∙ ap (strip (keep f ds)) (sym gone));
             }

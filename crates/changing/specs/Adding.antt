@@ -15,7 +15,7 @@ use Rattle.multimap.specs.declared.ListOrderedMultimap.{ListOrderedMultimap}
 
 -- m is ready for a round of the member place `key`: the lists, the chains and the index are right, each member but perhaps that one has a
 -- round, and there is room for a round
-pub record Open (m : ListOrderedMultimap) (key : ℕ) : Type 0 where
+pub record Ready (m : ListOrderedMultimap) (key : ℕ) : Type 0 where
   pub chained : Chained (linksOf m)
   pub here : 0 < count key (order (membersOf m))
   pub others : (j : ℕ) → 0 < count j (order (membersOf m)) → j ≢ key → 0 < length (recordIn (linksOf m) j)
@@ -43,7 +43,7 @@ lastKey m = keyAt (m .«previous_key») 256
 
 -- r is m with k as its last member, with no round yet
 pub record Joined (m : ListOrderedMultimap) (k : ℕ) (r : ListOrderedMultimap) : Type 0 where
-  pub ready : Open r (lastKey r)
+  pub ready : Ready r (lastKey r)
   pub number : at (r .keys) (lastKey r) ≡ k
   pub pairs : pairs r ≡ pairs m
   pub members : members r ≡ members m ++ (k ∷ [])

@@ -1,4 +1,4 @@
--- What `copy_record` asks for.
+-- What `copy_record` requires.
 use Prim.Native.Nat.{ℕ, _≤_, _<_}
 use mathlib.Core.List.{List}
 use lib.ListN.{length}

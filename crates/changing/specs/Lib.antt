@@ -1,3 +1,4 @@
+-- What the contracts of `changing` cite.
 pub mod Adding
 pub mod AddingAnswer
 pub mod Strike

@@ -7,7 +7,7 @@ use mathlib.Core.List.{List, [], _∷_, _++_}
 use lib.Dec.{eqb}
 use lib.ListN.{length}
 use Rattle.steps.specs.State.{others, maxRounds}
-use Rattle.links.specs.Path.{pick, count, without, walk}
+use Rattle.links.specs.Path.{pick, count, strip, walk}
 use Rattle.links.specs.Places.{order}
 use Rattle.links.specs.Links.{Links, recordIn, Chained}
 use Rattle.index.specs.Table.{Holds}
@@ -34,11 +34,6 @@ chosen bs [] = []
 chosen [] (v ∷ vs) = v ∷ chosen [] vs
 chosen (b ∷ bs) (v ∷ vs) = pick (eqb b 0) (v ∷ chosen bs vs) (chosen bs vs)
 
--- a list without some places
-abbrev pub strip : List ℕ → List ℕ → List ℕ
-strip [] vs = vs
-strip (w ∷ ws) vs = strip ws (without w vs)
-
 -- the places visited are a stretch of the course
 pub record Stretch (b : Bool) (m : ListOrderedMultimap) (start turns : ℕ) : Type 0 where
   pub chained : Chained (linksOf m)
@@ -62,12 +57,12 @@ pub record Struck (m : ListOrderedMultimap) (ws : List ℕ) (r : ListOrderedMult
   pub kept : RoundsOnly m r
 
 -- k is the place of a member of a well-linked map
-pub record Member (m : ListOrderedMultimap) (k : ℕ) : Type 0 where
+pub record MemberPlace (m : ListOrderedMultimap) (k : ℕ) : Type 0 where
   pub linked : WellLinked m
   pub inside : 0 < count k (order (membersOf m))
 
 -- x is the place of a round of a well-linked map
-pub record Round (m : ListOrderedMultimap) (x : ℕ) : Type 0 where
+pub record RoundPlace (m : ListOrderedMultimap) (x : ℕ) : Type 0 where
   pub linked : WellLinked m
   pub inside : 0 < count x (order (roundsOf m))
 

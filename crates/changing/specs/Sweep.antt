@@ -1,17 +1,16 @@
--- Members without a round leave.
+-- Members without a round leave, by a walk along the list of members.
 use Prim.Native.Nat.{ℕ}
 use mathlib.Core.Path.{_≡_}
 use mathlib.Core.List.{List, _++_}
 use lib.Dec.{eqb}
 use Rattle.steps.specs.State.{remove-member}
-use Rattle.links.specs.Path.{keep, walk}
+use Rattle.links.specs.Path.{keep, strip, walk}
 use Rattle.links.specs.Places.{order}
 use Rattle.links.specs.Links.{Chained}
 use Rattle.index.specs.Table.{Holds}
 use Rattle.multimap.specs.Map.{at, keyAt, roundsOf, membersOf, linksOf, stateOf}
 use Rattle.multimap.specs.WellLinked.{WellLinked}
 use Rattle.multimap.specs.declared.ListOrderedMultimap.{ListOrderedMultimap}
-use Rattle.changing.specs.Strike.{strip}
 
 -- so many member places from `start` on, and those of them that have no round
 abbrev pub passed : ListOrderedMultimap → ℕ → ℕ → List ℕ

@@ -9,14 +9,14 @@ ghost use Prim.Native.Nat.{_+_, min};
 ghost use lib.Dec.{eqb};
 ghost use Rattle.links.specs.Path.{pick, walk};
 ghost use Rattle.steps.specs.State.{maxTaken};
-ghost use Rattle.changing.specs.Adding.{Open, AddedTo, Joins, Joined, Posted};
+ghost use Rattle.changing.specs.Adding.{Ready, AddedTo, Joins, Joined, Posted};
 ghost use mathlib.Core.Bool.{cond};
 ghost use mathlib.Core.List.{map};
 ghost use lib.ListN.{getD};
 ghost use Rattle.steps.specs.Step.{over};
 ghost use Rattle.multimap.specs.Map.{at, valueAt};
 ghost use Rattle.changing.specs.Copy.{Copies};
-ghost use Rattle.changing.specs.Strike.{chosen, visited, Stretch, Struck, Member, Emptied};
+ghost use Rattle.changing.specs.Strike.{chosen, visited, Stretch, Struck, MemberPlace, Emptied};
 ghost use Rattle.changing.specs.Sweep.{idle, Sweepable, Swept, RecordRemoved};
 
 pub mod adding;
@@ -73,7 +73,7 @@ fn join(mut m: ListOrderedMultimap, k: u64, at: usize) -> ListOrderedMultimap
 
 // The map with the round v of the member place `key` at the back.
 fn add_round(mut m: ListOrderedMultimap, key: u16, v: u64) -> ListOrderedMultimap
-    requires { ⌜ Open m key ⌝ }
+    requires { ⌜ Ready m key ⌝ }
     ensures { λ r. ⌜ AddedTo m key v r ⌝ }
 {
     let held = m.values_len;
@@ -212,7 +212,7 @@ fn sweep(m: ListOrderedMultimap, start: u16, turns: usize) -> ListOrderedMultima
 
 // The map without the rounds of the member place `key`. The member stays, in its place of the list.
 fn empty_record(m: ListOrderedMultimap, key: u16) -> ListOrderedMultimap
-    requires { ⌜ Member m key ⌝ }
+    requires { ⌜ MemberPlace m key ⌝ }
     ensures { λ r. ⌜ Emptied m key r ⌝ }
 {
     let next = m.next_index;
@@ -225,7 +225,7 @@ fn empty_record(m: ListOrderedMultimap, key: u16) -> ListOrderedMultimap
 
 // The map without the member in the place `key` and its rounds.
 fn remove_record(m: ListOrderedMultimap, key: u16) -> ListOrderedMultimap
-    requires { ⌜ Member m key ⌝ }
+    requires { ⌜ MemberPlace m key ⌝ }
     ensures { λ r. ⌜ RecordRemoved m key r ⌝ }
 {
     let emptied = empty_record(m, key);

@@ -13,7 +13,7 @@ ghost use Rattle.steps.specs.Step.{say, write};
 ghost use Rattle.steps.specs.Trace.{Does};
 ghost use Rattle.multimap.specs.Answers.{gotOf, countedOf};
 ghost use Rattle.multimap.specs.WellLinked.{WellLinked, linked};
-ghost use Rattle.changing.specs.Strike.{Round};
+ghost use Rattle.changing.specs.Strike.{RoundPlace};
 ghost use Rattle.changing.specs.RemovingAnswer.{poppedOf, keptOf, PoppedAt};
 
 pub struct Removal {
@@ -102,7 +102,7 @@ pub struct Pop {
 
 // The round in the place leaves.
 fn pop_at(m: ListOrderedMultimap, place: u16) -> Pop
-    requires { ⌜ Round m place ⌝ }
+    requires { ⌜ RoundPlace m place ⌝ }
     ensures { λ r. ⌜ PoppedAt m place (r .answer) (r .map) ⌝ }
 {
     let x = place as usize;

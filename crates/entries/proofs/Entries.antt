@@ -1,16 +1,16 @@
 -- The entry calls' steps, from those of `entry`, `append`, `insert` and `remove`, for any kind of map. Assumes nothing.
 use Prim.Native.Nat.{ℕ}
 use mathlib.Core.Path.{_≡_, refl, sym, ap, _∙_, subst}
-use mathlib.Core.Bool.{Bool, true, false, cond, not, _&&_, true≢false}
-use mathlib.Core.List.{List, [], _∷_}
+use mathlib.Core.Bool.{Bool, true, false}
 use native.Mathlib.Omega.{arith}
 use Rattle.steps.specs.State as St
-use Rattle.steps.specs.State.{State, full, crowded, absent, rounds, add, replace, remove-member}
-use Rattle.steps.specs.Call.{Call, Answer, Outcome, refused, none, done, round, count, present, popped, occupied, vacant}
+use Rattle.steps.specs.State.{State, full, crowded, add}
+use Rattle.steps.specs.Call.{Call, Answer, Outcome, refused, done, present, occupied, vacant}
 use Rattle.steps.specs.Call.{append, insert, remove, entry, occupied-append, occupied-insert, occupied-remove-entry, vacant-insert}
-use Rattle.steps.specs.Step.{step, checks, act, say, first, entryOf}
+use Rattle.steps.specs.Step.{step, checks, act, say, entryOf}
 use Rattle.steps.specs.Trace.{Kind, Does}
 use Rattle.steps.proofs.Doing.{does-refuse, does-change}
+use Rattle.changing.proofs.Posts.{step-full, step-crowded, step-known, step-new}
 
 -- two answers that are one
 same-answer : {a b : Answer} → say a ≡ say b → a ≡ b
@@ -64,14 +64,6 @@ module _ {Map : Type 0} (M : Kind Map) (k : ℕ) (m : Map) where
 
   module _ (v : ℕ) (m′ : Map) where
     module _ (p : St.present k (M .abs m) ≡ true) where
-      append-full : full (M .abs m) ≡ true → step (append k v) (M .abs m) ≡ (say (refused 1), M .abs m)
-      unfolding step checks
-      append-full f = rw f refl
-
-      append-done : full (M .abs m) ≡ false → step (append k v) (M .abs m) ≡ (say (present true), add k v (M .abs m))
-      unfolding step checks act
-      append-done f = rw (f, p, p) refl
-
       occupied-full : full (M .abs m) ≡ true → step (occupied-append k v) (M .abs m) ≡ (say (refused 1), M .abs m)
       unfolding step checks
       occupied-full f = rw (p, f) refl
@@ -85,11 +77,11 @@ module _ {Map : Type 0} (M : Kind Map) (k : ℕ) (m : Map) where
         where
           go : (f : Bool) → full s ≡ f → Does M (occupied-append k v) m (say done) m′
           go true f =
-              let e : present b ≡ refused 1 = same-answer (d .outcome ∙ ap (λ (r : Outcome × State). r .0) (append-full f)) in
+              let e : present b ≡ refused 1 = same-answer (d .outcome ∙ ap (λ (r : Outcome × State). r .0) (step-full k v s f)) in
               absurd (let z : _≡_ {A = ℕ} 0 1 = cc in omega arith)
           go false f =
               does-change M (occupied-append k v) m (say done) (add k v s) m′ refl refl (occupied-done f)
-              (d .state ∙ ap (λ (r : Outcome × State). r .1) (append-done f)) (d .linked)
+              (d .state ∙ ap (λ (r : Outcome × State). r .1) (step-known k v s f p)) (d .linked)
 
       pub occupied-append-refused : (n : ℕ) → M .Linked m → Does M (append k v) m (say (refused n)) m′ → Does M (occupied-append k v) m (say (refused 1)) m′
       occupied-append-refused n l d = go (full s) refl
@@ -97,7 +89,7 @@ module _ {Map : Type 0} (M : Kind Map) (k : ℕ) (m : Map) where
           go : (f : Bool) → full s ≡ f → Does M (occupied-append k v) m (say (refused 1)) m′
           go true f = subst (λ (x : Map). Does M (occupied-append k v) m (say (refused 1)) x) (sym (same-map (append k v) n m′ d)) (does-refuse M (occupied-append k v) m 1 l (occupied-full f))
           go false f =
-              let e : refused n ≡ present true = same-answer (d .outcome ∙ ap (λ (r : Outcome × State). r .0) (append-done f)) in
+              let e : refused n ≡ present true = same-answer (d .outcome ∙ ap (λ (r : Outcome × State). r .0) (step-known k v s f p)) in
               absurd (let z : _≡_ {A = ℕ} 0 1 = cc in omega arith)
 
       -- insert and remove of a present member do what the entry's calls do
@@ -110,27 +102,31 @@ module _ {Map : Type 0} (M : Kind Map) (k : ℕ) (m : Map) where
       occupied-remove-as = rw p refl
 
     module _ (p : St.present k (M .abs m) ≡ false) where
-      vacant-as : (f c : Bool) → full (M .abs m) ≡ f → crowded (M .abs m) ≡ c
-          → (step (append k v) (M .abs m) ≡ cond f (say (refused 1), M .abs m) (cond c (say (refused 2), M .abs m) (say (present false), add k v (M .abs m))))
-          × (step (vacant-insert k v) (M .abs m) ≡ cond f (say (refused 1), M .abs m) (cond c (say (refused 2), M .abs m) (say done, add k v (M .abs m))))
+      vacant-full : full (M .abs m) ≡ true → step (vacant-insert k v) (M .abs m) ≡ (say (refused 1), M .abs m)
+      unfolding step checks
+      vacant-full f = rw (p, f) refl
+
+      vacant-crowded : full (M .abs m) ≡ false → crowded (M .abs m) ≡ true → step (vacant-insert k v) (M .abs m) ≡ (say (refused 2), M .abs m)
+      unfolding step checks
+      vacant-crowded f g = rw (p, f, g) refl
+
+      vacant-done : full (M .abs m) ≡ false → crowded (M .abs m) ≡ false → step (vacant-insert k v) (M .abs m) ≡ (say done, add k v (M .abs m))
       unfolding step checks act
-      vacant-as true c f g = (rw f refl, rw (p, f) refl)
-      vacant-as false true f g = (rw (f, p, g) refl, rw (p, f, g) refl)
-      vacant-as false false f g = (rw (f, p, g, p) refl, rw (p, f, g, p) refl)
+      vacant-done f g = rw (p, f, g, p) refl
 
       pub vacant-insert-done : (b : Bool) → Does M (append k v) m (say (present b)) m′ → Does M (vacant-insert k v) m (say done) m′
       vacant-insert-done b d = go (full s) (crowded s) refl refl
         where
           go : (f c : Bool) → full s ≡ f → crowded s ≡ c → Does M (vacant-insert k v) m (say done) m′
           go true c f g =
-              let e : present b ≡ refused 1 = same-answer (d .outcome ∙ ap (λ (r : Outcome × State). r .0) (vacant-as true c f g .0)) in
+              let e : present b ≡ refused 1 = same-answer (d .outcome ∙ ap (λ (r : Outcome × State). r .0) (step-full k v s f)) in
               absurd (let z : _≡_ {A = ℕ} 0 1 = cc in omega arith)
           go false true f g =
-              let e : present b ≡ refused 2 = same-answer (d .outcome ∙ ap (λ (r : Outcome × State). r .0) (vacant-as false true f g .0)) in
+              let e : present b ≡ refused 2 = same-answer (d .outcome ∙ ap (λ (r : Outcome × State). r .0) (step-crowded k v s f p g)) in
               absurd (let z : _≡_ {A = ℕ} 0 1 = cc in omega arith)
           go false false f g =
-              does-change M (vacant-insert k v) m (say done) (add k v s) m′ refl refl (vacant-as false false f g .1)
-              (d .state ∙ ap (λ (r : Outcome × State). r .1) (vacant-as false false f g .0)) (d .linked)
+              does-change M (vacant-insert k v) m (say done) (add k v s) m′ refl refl (vacant-done f g)
+              (d .state ∙ ap (λ (r : Outcome × State). r .1) (step-new k v s f p g)) (d .linked)
 
       pub vacant-insert-refused : (n : ℕ) → M .Linked m → Does M (append k v) m (say (refused n)) m′ → Does M (vacant-insert k v) m (say (refused n)) m′
       vacant-insert-refused n l d = go (full s) (crowded s) refl refl
@@ -141,8 +137,8 @@ module _ {Map : Type 0} (M : Kind Map) (k : ℕ) (m : Map) where
               (subst (λ (x : Map). Does M (vacant-insert k v) m (say (refused j)) x) (sym (same-map (append k v) n m′ d)) (does-refuse M (vacant-insert k v) m j l i))
 
           go : (f c : Bool) → full s ≡ f → crowded s ≡ c → Does M (vacant-insert k v) m (say (refused n)) m′
-          go true c f g = back 1 (same-answer (d .outcome ∙ ap (λ (r : Outcome × State). r .0) (vacant-as true c f g .0))) (vacant-as true c f g .1)
-          go false true f g = back 2 (same-answer (d .outcome ∙ ap (λ (r : Outcome × State). r .0) (vacant-as false true f g .0))) (vacant-as false true f g .1)
+          go true c f g = back 1 (same-answer (d .outcome ∙ ap (λ (r : Outcome × State). r .0) (step-full k v s f))) (vacant-full f)
+          go false true f g = back 2 (same-answer (d .outcome ∙ ap (λ (r : Outcome × State). r .0) (step-crowded k v s f p g))) (vacant-crowded f g)
           go false false f g =
-              let e : refused n ≡ present false = same-answer (d .outcome ∙ ap (λ (r : Outcome × State). r .0) (vacant-as false false f g .0)) in
+              let e : refused n ≡ present false = same-answer (d .outcome ∙ ap (λ (r : Outcome × State). r .0) (step-new k v s f p g)) in
               absurd (let z : _≡_ {A = ℕ} 0 1 = cc in omega arith)

@@ -1,1 +1,2 @@
+-- What the contracts of `entries` cite.
 pub mod Answers

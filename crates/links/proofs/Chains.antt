@@ -1,18 +1,18 @@
 -- Laws of the links of a map: a member joins or leaves, a round is added or struck, and they are chained again. Assumes nothing.
 use Prim.Native.Nat.{ℕ, zero, suc, _+_, _-_, _≤_, _<_}
 use mathlib.Core.Path.{_≡_, refl, sym, ap, _∙_, subst}
-use mathlib.Core.Logic.{_⊎_, inl, inr, _≢_, ⊎-elim}
+use mathlib.Core.Logic.{_⊎_, _≢_, ⊎-elim}
 use mathlib.Core.Bool.{Bool, true, false, not}
 use mathlib.Core.List.{List, [], _∷_, _++_, append-nil}
 use native.Mathlib.Omega.{arith}
 use borrow.Author.Tests.{eq-eqb, ne-eqb, eqb-true}
 use lib.Dec.{eqb}
 use lib.ListN.{length, length-append}
-use Rattle.links.specs.Path.{pick, one, count, keep, without, Path}
-use Rattle.links.specs.Places.{Places, put, order, Linked, vacancy, pushed, cut}
+use Rattle.links.specs.Path.{pick, one, count, without, Path}
+use Rattle.links.specs.Places.{put, order, vacancy}
 use Rattle.links.specs.Links.{Links, base, recordOf, recordIn, Chained, joined, added, struck, parted}
-use Rattle.links.proofs.Paths.{same-or-not, count-in, count-hit, count-same, count-other, count-append, Once, Split, split-at, without-split, keep-append, keep-same, count-keep, length-keep}
-use Rattle.links.proofs.Paths.{path-next, path-prev, path-last, path-frame, path-start}
+use Rattle.links.proofs.Paths.{same-or-not, count-in, count-hit, count-same, count-other, count-append, Once, Split, split-at, keep-append, keep-none, keep-same, count-keep, length-keep}
+use Rattle.links.proofs.Paths.{path-next, path-prev, path-last, path-frame}
 use Rattle.links.proofs.Puts.{put-hit, put-miss, put-first, put-neither, cut-path, push-path, last-old}
 use Rattle.links.proofs.Lists.{order-once, in-array, vacancy-fits, vacancy-new, pushed-order, pushed-linked, cut-linked, split-cut, cut-order}
 
@@ -45,8 +45,7 @@ pub in-own : (key : ℕ → ℕ) (x : ℕ) (vs : List ℕ) → 0 < count x vs �
 in-own key x vs i = omega (arith, i, count-keep (λ y. eqb (key y) (key x)) x vs, ap (λ (b : Bool). pick b (count x vs) 0) (eq-eqb (key x) (key x) refl))
 
 none-of : (key : ℕ → ℕ) (k : ℕ) (vs : List ℕ) → ((q : ℕ) → 0 < count q vs → key q ≢ k) → recordOf key k vs ≡ []
-none-of key k [] h = refl
-none-of key k (v ∷ vs) h = rw (ne-eqb (key v) k (h v (rw count-same (omega arith)))) (none-of key k vs (λ q i. h q (omega arith)))
+none-of key k vs h = keep-none (λ q. eqb (key q) k) vs (λ q i. ne-eqb (key q) k (h q i))
 
 -- ---- a list without a place
 

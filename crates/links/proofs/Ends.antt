@@ -1,19 +1,16 @@
 -- A list of places from both ends: walks, the first and the last place leave, places leave one after the other, and a freed place is taken
 -- again. Walks of a record's chain likewise. Assumes nothing.
-use Prim.Native.Nat.{ℕ, zero, suc, _+_, _-_, _≤_, _<_}
-use mathlib.Core.Path.{_≡_, refl, sym, ap, _∙_, subst}
-use mathlib.Core.Logic.{_≢_, ⊎-elim}
-use mathlib.Core.Bool.{Bool, true, false}
+use Prim.Native.Nat.{ℕ, _+_, _-_, _≤_, _<_}
+use mathlib.Core.Path.{_≡_, refl, ap, _∙_}
 use mathlib.Core.List.{List, [], _∷_, _++_, append-nil, reverse, reverse-cons}
 use native.Mathlib.Omega.{arith}
-use lib.Dec.{eqb}
 use lib.ListN.{length, length-reverse}
 use borrow.Author.Tests.{ne-eqb}
-use Rattle.links.specs.Path.{count, pick, without, strip, follow}
-use Rattle.links.specs.Places.{Places, order, freed, Linked, vacancy, pushed, cut, cuts}
+use Rattle.links.specs.Path.{count, strip, follow}
+use Rattle.links.specs.Places.{Places, order, Linked, vacancy, cut, cuts}
 use Rattle.links.specs.Links.{Links, base, recordIn, Chained}
-use Rattle.links.proofs.Paths.{Once, count-append, count-same, count-hit, count-other, same-or-not, path-follow, path-reverse, without-split, count-in}
-use Rattle.links.proofs.Lists.{length-order, order-once, cut-linked, cut-order, pushed-order}
+use Rattle.links.proofs.Paths.{Once, count-append, count-same, count-hit, path-follow, path-reverse, count-in}
+use Rattle.links.proofs.Lists.{length-order, order-once, order-without, cut-linked, cut-order}
 use Rattle.links.proofs.Chains.{cells-once, in-without}
 
 count-reverse : (q : ℕ) (xs : List ℕ) → count q (reverse xs) ≡ count q xs
@@ -36,19 +33,16 @@ module _ (l : Places) (g : Linked l) where
       path-follow (l .prev) (l .next) (l .root) (reverse (order l)) (l .root) k (path-reverse (l .next) (l .prev) (l .root) (order l) (l .root) (g .path))
       (count-reverse (l .root) (order l) ∙ off-end (l .root) (order l) (order-once l g)) (omega (arith, length-order l, length-reverse (order l)))
 
-  once-order : Once (order l)
-  once-order q = omega (arith, order-once l g q)
-
   -- the first place leaves
   pub pop-front-order : (x : ℕ) (xs : List ℕ) → order l ≡ x ∷ xs → order (cut l x) ≡ xs
   pop-front-order x xs e =
-      cut-order l x g (rw (e, count-same) (omega arith)) ∙ ap (without x) e ∙ without-split x [] xs (subst Once e once-order)
+      cut-order l x g (rw (e, count-same) (omega arith)) ∙ order-without l g [] x xs e
 
   -- the last place leaves
   pub pop-back-order : (x : ℕ) (xs : List ℕ) → order l ≡ xs ++ x ∷ [] → order (cut l x) ≡ xs
   pop-back-order x xs e =
       cut-order l x g (rw (e, count-append x xs (x ∷ [])) (omega (arith, count-same x [])))
-      ∙ ap (without x) e ∙ without-split x xs [] (subst Once e once-order) ∙ append-nil xs
+      ∙ order-without l g xs x [] e ∙ append-nil xs
 
   -- the place that was freed last is the next to be taken
   pub freed-again : (x : ℕ) → 0 < count x (order l) → vacancy (cut l x) ≡ x

@@ -1,14 +1,13 @@
 -- A map with no place in use is well-linked and stands for the empty state. Assumes nothing.
 use Prim.Native.Nat.{ℕ, _<_}
-use mathlib.Core.Path.{_≡_, refl, sym, ap, _∙_, subst}
-use mathlib.Core.List.{List, [], _∷_, map}
+use mathlib.Core.Path.{_≡_, ap}
+use mathlib.Core.List.{[]}
 use native.Mathlib.Omega.{arith}
-use Rattle.steps.specs.State.{State, Pair, empty}
 use Rattle.links.specs.Path.{count}
 use Rattle.links.specs.Places.{order}
 use Rattle.links.proofs.Bare.{bare-order, bare-linked, bare-chained}
 use Rattle.index.specs.Table.{Holds}
-use Rattle.multimap.specs.Map.{at, keyAt, valueAt, pairAt, roundsOf, membersOf, linksOf, stateOf}
+use Rattle.multimap.specs.Map.{keyAt, valueAt, roundsOf, membersOf, linksOf, stateOf}
 use Rattle.multimap.specs.WellLinked.{WellLinked}
 use Rattle.multimap.specs.declared.ListOrderedMultimap.{ListOrderedMultimap}
 

@@ -1,34 +1,30 @@
 -- A well-linked map's links are met from both ends, and its index holds exactly the members with a round. Assumes nothing.
-use Prim.Native.Nat.{ℕ, _+_, _≤_, _<_}
-use mathlib.Core.Path.{_≡_, refl, sym, ap, _∙_, subst}
+use Prim.Native.Nat.{ℕ, _≤_, _<_}
+use mathlib.Core.Path.{_≡_, refl, sym, ap, _∙_}
 use mathlib.Core.Logic.{_⊎_, inl, inr, _≢_, ⊎-elim}
-use mathlib.Core.Bool.{Bool, true, false, true≢false}
+use mathlib.Core.Bool.{true, true≢false}
 use mathlib.Core.List.{List, [], _∷_, map, reverse, List·Memᴰ}
 use native.Mathlib.Omega.{arith}
 use lib.Dec.{eqb}
-use borrow.Author.Tests.{ne-eqb}
-use lib.ListN.{length, getD, length-map}
-use Rattle.steps.specs.State as St
+use lib.ListN.{length, getD}
 use Rattle.steps.specs.State.{has, of}
 use Rattle.steps.proofs.Filter.{nonempty, any-filter}
-use Rattle.links.specs.Path.{count, keep}
 use Rattle.links.specs.Places.{order}
 use Rattle.links.specs.Links.{recordIn}
-use Rattle.links.proofs.Paths.{keep-same, length-keep}
+use Rattle.links.proofs.Paths.{length-keep}
 use Rattle.links.proofs.Lists.{length-order}
 use Rattle.links.proofs.Ends.{record-from-front, record-from-back}
-use Rattle.index.specs.declared.KeyPlace.{KeyPlace}
 use Rattle.index.specs.declared.Found.{Found}
 use Rattle.index.specs.declared.Found.the-variants.{At, Absent}
 use Rattle.index.specs.Search.{search}
 use Rattle.index.proofs.Finds.{says-at, says-absent}
 use Rattle.index.proofs.Table.{held}
-use Rattle.multimap.specs.Map.{at, keyAt, valueAt, pairAt, pairs, members, roundsOf, membersOf, linksOf, stateOf}
+use Rattle.multimap.specs.Map.{at, keyAt, pairAt, pairs, roundsOf, membersOf, linksOf}
 use Rattle.multimap.specs.WellLinked.{WellLinked}
 use Rattle.multimap.specs.Links.{placesOf, fromHead, fromTail, Connected, Stands, FoundAt, Indexed}
 use Rattle.multimap.specs.declared.ListOrderedMultimap.{ListOrderedMultimap}
-use Rattle.multimap.proofs.Stores.{any-some, mem-count, count-mem}
-use Rattle.multimap.proofs.Records.{keep-none, filter-map, own-round, Member, found}
+use Rattle.multimap.proofs.Stores.{mem-count}
+use Rattle.multimap.proofs.Records.{places-are, pairs-of, no-places, found}
 
 module _ (m : ListOrderedMultimap) (g : WellLinked m) where
   abbrev ks : List ℕ
@@ -36,18 +32,6 @@ module _ (m : ListOrderedMultimap) (g : WellLinked m) where
 
   abbrev vs : List ℕ
   vs = order (roundsOf m)
-
-  -- the rounds of a member place are the places of its pairs
-  places-are : (k x : ℕ) → 0 < count x ks → at (m .keys) x ≡ k → recordIn (linksOf m) x ≡ placesOf m k
-  places-are k x i e =
-      sym (keep-same (λ q. of k (pairAt m q)) (λ q. eqb (keyAt (m .«key_index») q) x) vs
-      (λ q j. subst (λ (n : ℕ). of n (pairAt m q) ≡ eqb (keyAt (m .«key_index») q) x) e (own-round m g x q i j)))
-
-  -- a number that no member place has is in no pair
-  no-places : (k : ℕ) → ((j : ℕ) → List·Memᴰ j ks → at (m .keys) j ≡ k → ⊥) → placesOf m k ≡ []
-  no-places k new =
-      keep-none (λ q. of k (pairAt m q)) vs
-      (λ q i. ne-eqb k (at (m .keys) (keyAt (m .«key_index») q)) (λ e. new _ (count-mem _ ks (g .chained .keys q i)) (sym e)))
 
   short : (x : ℕ) → length (recordIn (linksOf m) x) ≤ 1024
   short x = omega (arith, length-keep (λ q. eqb (keyAt (m .«key_index») q) x) vs, length-order (roundsOf m), g .chained .rounds .some-used, g .chained .rounds .some-fresh)
@@ -58,17 +42,17 @@ module _ (m : ListOrderedMultimap) (g : WellLinked m) where
       front : (k : ℕ) (r : Found) → search (m .index) (m .keys) k ≡ r → fromHead m r ≡ placesOf m k
       front k (At p x n) e =
           let w = found m g k p n x e in
-          record-from-front (linksOf m) (g .chained) (x .0) (w .member) 1024 (short (x .0)) ∙ places-are k (x .0) (w .member) (w .number)
-      front k (Absent p n) e = sym (no-places k (says-absent (m .index) (m .keys) ks k (g .index) p n e .1))
+          record-from-front (linksOf m) (g .chained) (x .0) (w .member) 1024 (short (x .0)) ∙ places-are m g k (x .0) (w .member) (w .number)
+      front k (Absent p n) e = sym (no-places m g k (says-absent (m .index) (m .keys) ks k (g .index) p n e .1))
 
       back : (k : ℕ) (r : Found) → search (m .index) (m .keys) k ≡ r → fromTail m r ≡ reverse (placesOf m k)
       back k (At p x n) e =
           let w = found m g k p n x e in
-          record-from-back (linksOf m) (g .chained) (x .0) (w .member) 1024 (short (x .0)) ∙ ap reverse (places-are k (x .0) (w .member) (w .number))
-      back k (Absent p n) e = sym (ap reverse (no-places k (says-absent (m .index) (m .keys) ks k (g .index) p n e .1)))
+          record-from-back (linksOf m) (g .chained) (x .0) (w .member) 1024 (short (x .0)) ∙ ap reverse (places-are m g k (x .0) (w .member) (w .number))
+      back k (Absent p n) e = sym (ap reverse (no-places m g k (says-absent (m .index) (m .keys) ks k (g .index) p n e .1)))
 
   has-places : (k : ℕ) → has k (pairs m) ≡ nonempty (map (pairAt m) (placesOf m k))
-  has-places k = any-filter (of k) (pairs m) ∙ ap nonempty (filter-map (of k) (pairAt m) vs)
+  has-places k = any-filter (of k) (pairs m) ∙ ap nonempty (pairs-of m g k)
 
   -- what stands in the index is a member with a round
   stands-member : (p k : ℕ) → Stands m p k → List·Memᴰ (getD (m .index) p 0) ks
@@ -77,7 +61,7 @@ module _ (m : ListOrderedMultimap) (g : WellLinked m) where
   has-round : (p k : ℕ) → Stands m p k → has k (pairs m) ≡ true
   has-round p k s =
       let i = mem-count (getD (m .index) p 0) ks (stands-member p k s) in
-      has-places k ∙ ap (λ (l : List ℕ). nonempty (map (pairAt m) l)) (sym (places-are k (getD (m .index) p 0) i (s .number)))
+      has-places k ∙ ap (λ (l : List ℕ). nonempty (map (pairAt m) l)) (sym (places-are m g k (getD (m .index) p 0) i (s .number)))
       ∙ go (recordIn (linksOf m) (getD (m .index) p 0)) (g .some (getD (m .index) p 0) i)
     where
       go : (l : List ℕ) → 0 < length l → nonempty (map (pairAt m) l) ≡ true
@@ -104,4 +88,4 @@ module _ (m : ListOrderedMultimap) (g : WellLinked m) where
           record { inside = w .0; filled = rw (w .1) (g .index .place (x .0) (w .2)); number = ap (at (m .keys)) (w .1) ∙ w .3 } in
           (p, record { stands = s; once = λ q t. same-place p q k s t; key = x; looked = n; found = e })
       each k h (Absent p n) e =
-          absurd (true≢false (sym h ∙ has-places k ∙ ap (λ (l : List ℕ). nonempty (map (pairAt m) l)) (no-places k (says-absent (m .index) (m .keys) ks k (g .index) p n e .1))))
+          absurd (true≢false (sym h ∙ has-places k ∙ ap (λ (l : List ℕ). nonempty (map (pairAt m) l)) (no-places m g k (says-absent (m .index) (m .keys) ks k (g .index) p n e .1))))

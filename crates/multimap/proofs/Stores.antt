@@ -1,9 +1,9 @@
 -- Stores to the map's arrays, as changed functions; and lists that two functions map alike. Assumes nothing.
-use Prim.Native.Nat.{ℕ, zero, suc, _+_, _≤_, _<_}
-use mathlib.Core.Path.{_≡_, refl, sym, ap, _∙_, subst, fun-ext}
-use mathlib.Core.Logic.{_⊎_, inl, inr, _≢_, ⊎-elim}
-use mathlib.Core.Bool.{Bool, true, false, _||_}
-use mathlib.Core.List.{List, [], _∷_, _++_, map, List·Memᴰ, List·Memᴰ·head, List·Memᴰ·tail, List·Memᴰ·cases-cons, List·Memᴰ·not-nil}
+use Prim.Native.Nat.{ℕ, _<_}
+use mathlib.Core.Path.{_≡_, refl, sym, ap, _∙_, fun-ext}
+use mathlib.Core.Logic.{_⊎_, _≢_, ⊎-elim}
+use mathlib.Core.Bool.{true, false, or-true}
+use mathlib.Core.List.{List, [], _∷_, map, List·Memᴰ, List·Memᴰ·head, List·Memᴰ·tail, List·Memᴰ·cases-cons, List·Memᴰ·not-nil}
 use native.Mathlib.Omega.{arith}
 use lib.Dec.{eqb}
 use borrow.Author.Tests.{eq-eqb, ne-eqb}
@@ -20,6 +20,7 @@ use Rattle.index.specs.declared.KeyPlace.{KeyPlace}
 use Rattle.multimap.specs.declared.ValuePlace.{ValuePlace}
 use Rattle.multimap.specs.declared.ListOrderedMultimap.{ListOrderedMultimap}
 use Rattle.multimap.specs.Map.{at, keyAt, valueAt, pairAt, pairs, members, roundsOf, membersOf}
+pub use mathlib.Core.List.{map-append}
 
 -- an array read by f
 stored : (A : Type 0) (f : A → ℕ) (d : A) (t : List A) (i : ℕ) (y : A) → i < length t → (λ q. f (getD (set t i y) q d)) ≡ put (λ q. f (getD t q d)) i (f y)
@@ -93,18 +94,10 @@ any-some f k j [] h e = absurd (omega arith)
 any-some f k j (x ∷ xs) h e =
     ⊎-elim (λ (i : j ≡ x). rw (eq-eqb k (f x) (sym e ∙ ap f i)))
     (λ (i : j ≢ x). rw (any-some f k j xs (omega (arith, count-other j x xs i)) e) (or-true (eqb k (f x)))) (same-or-not j x)
-  where
-    or-true : (b : Bool) → (b || true) ≡ true
-    or-true true = refl
-    or-true false = refl
 
 pub any-none : (f : ℕ → ℕ) (k : ℕ) (ks : List ℕ) → ((j : ℕ) → 0 < count j ks → f j ≢ k) → any (eqb k) (map f ks) ≡ false
 any-none f k [] h = refl
 any-none f k (x ∷ xs) h = rw (ne-eqb k (f x) (λ e. h x (rw count-same (omega arith)) (sym e)), any-none f k xs (λ j i. h j (omega arith)))
-
-pub map-append : {A B : Type 0} (f : A → B) (xs ys : List A) → map f (xs ++ ys) ≡ map f xs ++ map f ys
-map-append f [] ys = refl
-map-append f (x ∷ xs) ys = ap (λ (l : List _). f x ∷ l) (map-append f xs ys)
 
 -- how many pairs and members
 pub length-pairs : (m : ListOrderedMultimap) → length (pairs m) ≡ m .«values_len»

@@ -1,3 +1,4 @@
+-- What the contracts of `multimap` cite.
 pub mod Map
 pub mod WellLinked
 pub mod Answers

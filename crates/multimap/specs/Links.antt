@@ -5,7 +5,6 @@ use mathlib.Core.Path.{_≡_}
 use mathlib.Core.Logic.{_⊎_}
 use mathlib.Core.Bool.{true}
 use mathlib.Core.List.{List, [], reverse}
-use lib.Dec.{eqb}
 use lib.ListN.{getD}
 use Rattle.steps.specs.State.{has, of, maxRounds}
 use Rattle.links.specs.Path.{keep, follow}

@@ -1,5 +1,5 @@
 -- What a map stands for: P, the list of pairs; K, the list of members; T, the rounds ever taken in.
-use Prim.Native.Nat.{ℕ, _+_}
+use Prim.Native.Nat.{ℕ}
 use mathlib.Core.List.{List, map}
 use lib.ListN.{getD}
 use Rattle.steps.specs.State.{State, Pair}
@@ -58,11 +58,14 @@ linksOf m =
 abbrev pub pairAt : ListOrderedMultimap → ℕ → Pair
 pairAt m q = record { key = at (m .keys) (keyAt (m .«key_index») q); value = at (m .values) q }
 
+-- P: the list of rounds in order, each with its member
 abbrev pub pairs : ListOrderedMultimap → List Pair
 pairs m = map (pairAt m) (order (roundsOf m))
 
+-- K: the list of members in order
 abbrev pub members : ListOrderedMultimap → List ℕ
 members m = map (at (m .keys)) (order (membersOf m))
 
+-- P, K and T, which is the counter
 abbrev pub stateOf : ListOrderedMultimap → State
 stateOf m = record { pairs = pairs m; members = members m; taken = m .taken }

@@ -1,7 +1,6 @@
 -- When a map is well-linked (document 01, module 6), and the map as a kind of map for the steps.
 use Prim.Native.Nat.{ℕ, _≤_, _<_}
 use mathlib.Core.Path.{_≡_}
-use mathlib.Core.List.{List}
 use lib.ListN.{length, getD}
 use Rattle.steps.specs.State.{maxTaken}
 use Rattle.steps.specs.Trace.{Kind}
@@ -9,7 +8,7 @@ use Rattle.links.specs.Path.{count}
 use Rattle.links.specs.Places.{order}
 use Rattle.links.specs.Links.{Chained, recordIn}
 use Rattle.index.specs.Table.{Holds}
-use Rattle.multimap.specs.Map.{at, linksOf, roundsOf, membersOf, stateOf}
+use Rattle.multimap.specs.Map.{linksOf, roundsOf, membersOf, stateOf}
 use Rattle.multimap.specs.declared.ListOrderedMultimap.{ListOrderedMultimap}
 
 -- Module 6's well-linked: the lists and the chains are linked, lengths and free places too; each member has a round; the index holds
@@ -20,10 +19,11 @@ pub record WellLinked (m : ListOrderedMultimap) : Type 0 where
   pub index : Holds (m .index) (m .keys) (order (membersOf m))
   pub taken : m .taken ≤ maxTaken
 
--- the i-th pair stands in round place i, and the i-th member in member place i
+-- Where `pack_to` puts them: the i-th pair stands in round place i, and the i-th member in member place i
 abbrev pub Packed : ListOrderedMultimap → Type 0
 Packed m =
     ((i : ℕ) → i < m .«values_len» → getD (order (roundsOf m)) i 0 ≡ i) × ((i : ℕ) → i < m .«keys_len» → getD (order (membersOf m)) i 0 ≡ i)
 
+-- the linked map, for `Does` and the claims on lists of calls
 abbrev pub linked : Kind ListOrderedMultimap
 linked = record { abs = stateOf; Linked = WellLinked; Packed = Packed }

@@ -8,6 +8,8 @@ use native.Mathlib.Omega.{arith}
 use lib.ListN.{length, getD}
 use Rattle.links.specs.Path.{pick, count, keep, walk}
 use Rattle.links.proofs.Paths.{same-or-not, count-same, count-other, Once}
+use Rattle.links.proofs.Lists.{length-walk}
+use Rattle.multimap.proofs.Copies.{getD-in}
 use Rattle.packing.specs.Moves.{upTo}
 
 -- ---- the i-th place of a list
@@ -17,15 +19,10 @@ nth-any [] i d e h = absurd (omega arith)
 nth-any (x ∷ xs) zero d e h = refl
 nth-any (x ∷ xs) (suc i) d e h = nth-any xs i d e (omega arith)
 
-pub nth-in : (xs : List ℕ) (i d : ℕ) → i < length xs → 0 < count (getD xs i d) xs
-nth-in [] i d h = absurd (omega arith)
-nth-in (x ∷ xs) zero d h = rw (count-same x xs) (omega arith)
-nth-in (x ∷ xs) (suc i) d h = omega (arith, nth-in xs i d (omega arith))
-
 pub nth-apart : (xs : List ℕ) (i j d : ℕ) → Once xs → i < j → j < length xs → getD xs i d ≢ getD xs j d
 nth-apart [] i j d o h k e = omega arith
 nth-apart (x ∷ xs) i zero d o h k e = omega arith
-nth-apart (x ∷ xs) zero (suc j) d o h k e = omega (arith, o x, count-same x xs, subst (λ (y : ℕ). 0 < count y xs) (sym e) (nth-in xs j d (omega arith)))
+nth-apart (x ∷ xs) zero (suc j) d o h k e = omega (arith, o x, count-same x xs, subst (λ (y : ℕ). 0 < count y xs) (sym e) (getD-in xs j d (omega arith)))
 nth-apart (x ∷ xs) (suc i) (suc j) d o h k e = nth-apart xs i j d (λ q. omega (arith, o q)) (omega arith) (omega arith) e
 
 -- where a place stands
@@ -45,10 +42,6 @@ stands q (x ∷ xs) h =
 
 -- ---- the places from 0 on
 
-length-from : (s n : ℕ) → length (walk suc s n) ≡ n
-length-from s zero = refl
-length-from s (suc n) = ap suc (length-from (suc s) n)
-
 pub from-more : (s n : ℕ) → walk suc s (suc n) ≡ walk suc s n ++ (s + n) ∷ []
 from-more s zero = let e : s ≡ s + 0 = omega arith in ap (λ (y : ℕ). y ∷ []) e
 from-more s (suc n) =
@@ -62,7 +55,7 @@ up-more n =
     ap upTo e ∙ from-more 0 n ∙ ap (λ (y : ℕ). upTo n ++ y ∷ []) f
 
 pub length-up : (n : ℕ) → length (upTo n) ≡ n
-length-up n = length-from 0 n
+length-up n = length-walk suc 0 n
 
 nth-from : (s n i : ℕ) → i < n → getD (walk suc s n) i 0 ≡ s + i
 nth-from s zero i h = absurd (omega arith)
@@ -73,7 +66,7 @@ pub nth-up : (n i : ℕ) → i < n → getD (upTo n) i 0 ≡ i
 nth-up n i h = nth-from 0 n i h ∙ omega arith
 
 pub below-in : (n k : ℕ) → k < n → 0 < count k (upTo n)
-below-in n k h = subst (λ (y : ℕ). 0 < count y (upTo n)) (nth-up n k h) (nth-in (upTo n) k 0 (rw (length-up n) h))
+below-in n k h = subst (λ (y : ℕ). 0 < count y (upTo n)) (nth-up n k h) (getD-in (upTo n) k 0 (rw (length-up n) h))
 
 pub in-below : (n k : ℕ) → 0 < count k (upTo n) → k < n
 in-below n k h =

@@ -7,15 +7,17 @@ use borrow.Author.Count.{below-none, below-more}
 use lib.ListN.{length, getD, set, length-set}
 use lib.Seq.{getD-set-same, getD-set-other}
 use Rattle.links.specs.Places.{Places, put, order, Linked, pushed}
+use Rattle.links.specs.Links.{Links}
 use Rattle.links.proofs.Puts.{put-hit, put-miss}
 use Rattle.links.proofs.Bare.{bare-order, bare-linked}
-use Rattle.links.proofs.Lists.{length-order, last-in, at-most-root, pushed-linked}
-use Rattle.multimap.specs.Map.{at, keyAt, valueAt, membersOf}
+use Rattle.links.proofs.Lists.{length-order, order-distinct, last-fits, pushed-linked}
+use Rattle.multimap.specs.Map.{at, keyAt, valueAt, membersOf, linksOf}
 use Rattle.multimap.specs.declared.ListOrderedMultimap.{ListOrderedMultimap}
-use Rattle.multimap.proofs.Stores.{key-set₂, value-set, Sized, places-eq}
+use Rattle.multimap.proofs.Stores.{Sized}
+use Rattle.multimap.proofs.Additions.{with-member, member-links, member-stored}
 use Rattle.packing.specs.Moves.{EmptyRecord, MembersMoved, SameRounds}
 use Rattle.packing.proofs.Lists.{nth-apart}
-use Rattle.packing.proofs.Walks.{walk-first, walk-once, walk-few, walk-nth, walk-fits, walk-next, pushed-up, order-up}
+use Rattle.packing.proofs.Walks.{walk-first, walk-few, walk-nth, walk-fits, walk-next, pushed-up, order-up}
 use Rattle.packing.proofs.Clears.{key-end}
 
 -- after i turns: i members are moved, and the walk along the old list is at the next one
@@ -110,61 +112,36 @@ module _ (m : ListOrderedMultimap) (g : Linked (membersOf m)) where
     new-fits : i < 256
     new-fits = omega (arith, more, walk-few l g)
 
-    last-fits : keyAt (o .«previous_key») 256 < 257
-    last-fits = omega (arith, at-most-root (membersOf o) (t .moved .linked) (keyAt (o .«previous_key») 256) (last-in (membersOf o) (t .moved .linked)))
+    back-fits : keyAt (o .«previous_key») 256 < 257
+    back-fits = omega (arith, last-fits (membersOf o) (t .moved .linked))
 
     old-fits : x < 256
     old-fits = walk-fits l g i x more (t .here)
 
     pub fits : Fits x i (keyAt (o .«previous_key») 256)
-    fits = record { old = old-fits; new = new-fits; back = last-fits }
-
-    abbrev last : ℕ
-    last = keyAt (o .«previous_key») 256
+    fits = record { old = old-fits; new = new-fits; back = back-fits }
 
     abbrev member : ℕ
     member = at (m .keys) x
 
     -- the stores of a turn
     abbrev pub joined : ListOrderedMultimap
-    joined =
-        record {
-          keys = set (o .keys) i member;
-          length = set (o .length) i 0;
-          «next_key» = set (set (o .«next_key») last (record { 0 = i })) i (record { 0 = 256 });
-          «previous_key» = set (set (o .«previous_key») i (record { 0 = last })) 256 (record { 0 = i });
-          values = o .values;
-          «key_index» = o .«key_index»;
-          «next_value» = o .«next_value»;
-          «previous_value» = o .«previous_value»;
-          «next_index» = set (o .«next_index») (1024 + i) (record { 0 = 1024 + i });
-          «previous_index» = set (o .«previous_index») (1024 + i) (record { 0 = 1024 + i });
-          index = o .index;
-          «keys_len» = i + 1;
-          «keys_fresh» = i + 1;
-          «keys_free» = o .«keys_free»;
-          «values_len» = o .«values_len»;
-          «values_fresh» = o .«values_fresh»;
-          «values_free» = o .«values_free»;
-          taken = o .taken;
-        }
+    joined = with-member o i member (i + 1) (i + 1) (o .«keys_free») (o .index)
+
+    stored : linksOf joined ≡ member-links o i member (i + 1) (i + 1) (o .«keys_free») (o .index)
+    stored = member-stored o i member (i + 1) (i + 1) (o .«keys_free») (o .index) (t .sized) new-fits (last-fits (membersOf o) (t .moved .linked))
 
     links : membersOf joined ≡ pushed (membersOf o)
-    links =
-        places-eq (membersOf joined) _
-        (key-set₂ (o .«next_key») last (record { 0 = i }) i (record { 0 = 256 }) 257 (t .sized .next-key) last-fits (omega (arith, new-fits)))
-        (key-set₂ (o .«previous_key») i (record { 0 = last }) 256 (record { 0 = i }) 257 (t .sized .previous-key) (omega (arith, new-fits)) (omega arith))
-        refl refl refl refl
-        ∙ sym (pushed-up (membersOf o) i (t .moved .len) (t .moved .fresh))
+    links = ap (λ (c : Links). c .members) stored ∙ sym (pushed-up (membersOf o) i (t .moved .len) (t .moved .fresh))
 
     number-new : at (set (o .keys) i member) i ≡ at (m .keys) (getD old i 0)
     number-new = getD-set-same (o .keys) i member 0 (rw (t .sized .keys) new-fits) ∙ ap (at (m .keys)) (walk-nth l g i x more (t .here))
 
     next-at : (q : ℕ) → valueAt (joined .«next_index») q ≡ put (valueAt (o .«next_index»)) (1024 + i) (1024 + i) q
-    next-at q = ap (λ (f : ℕ → ℕ). f q) (value-set (o .«next_index») (1024 + i) (record { 0 = 1024 + i }) (rw (t .sized .next-index) (omega (arith, new-fits))))
+    next-at q = ap (λ (c : Links). c .next q) stored
 
     prev-at : (q : ℕ) → valueAt (joined .«previous_index») q ≡ put (valueAt (o .«previous_index»)) (1024 + i) (1024 + i) q
-    prev-at q = ap (λ (f : ℕ → ℕ). f q) (value-set (o .«previous_index») (1024 + i) (record { 0 = 1024 + i }) (rw (t .sized .previous-index) (omega (arith, new-fits))))
+    prev-at q = ap (λ (c : Links). c .prev q) stored
 
     empty-new : EmptyRecord joined i
     empty-new =
@@ -186,7 +163,7 @@ module _ (m : ListOrderedMultimap) (g : Linked (membersOf m)) where
     place-old : (k : ℕ) → k < i → at (set places x i) (getD old k 0) ≡ k
     place-old k h =
         getD-set-other places x (getD old k 0) i 0
-        (λ e. nth-apart old k i 0 (walk-once l g) h (rw (length-order l) more) (e ∙ walk-nth l g i x more (t .here)))
+        (λ e. nth-apart old k i 0 (order-distinct l g) h (rw (length-order l) more) (e ∙ walk-nth l g i x more (t .here)))
         ∙ t .moved .place k h
 
     pub members-more : (y : ℕ) → y ≡ keyAt (m .«next_key») x → MembersTurned (m .keys) (order (membersOf m)) o₀ (i + 1) y (set places x i) joined

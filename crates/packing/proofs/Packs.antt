@@ -24,8 +24,9 @@ use Rattle.multimap.specs.Map.{at, keyAt, pairAt, pairs, members, roundsOf, mem
 use Rattle.multimap.specs.WellLinked.{WellLinked, Packed, linked}
 use Rattle.multimap.specs.declared.ListOrderedMultimap.{ListOrderedMultimap}
 use Rattle.multimap.proofs.Stores.{mem-count, count-mem, length-pairs, length-members}
+use Rattle.multimap.proofs.Copies.{getD-in}
 use Rattle.packing.specs.Moves.{upTo, MembersMoved, SameRounds, Movable, RoundsMoved, SameMembers, newPlace}
-use Rattle.packing.proofs.Lists.{stands, nth-in, nth-up, length-up, below-in, in-below, map-up, keep-up}
+use Rattle.packing.proofs.Lists.{stands, nth-up, length-up, below-in, in-below, map-up, keep-up}
 use Rattle.packing.proofs.Renumber.{renumbered}
 
 -- ---- when it is refused
@@ -150,7 +151,7 @@ module _ (m : ListOrderedMultimap) (g : WellLinked m) (places : List ℕ) (o : L
     number-new k i = number (at places k) (new-is k i .0) ∙ ap (at (m .keys)) (new-is k i .1)
 
     known : (q : ℕ) → q < m .«values_len» → 0 < count (old-key (getD vs q 0)) ks
-    known q l = g .chained .keys (getD vs q 0) (nth-in vs q 0 (rw (length-order (roundsOf m)) l))
+    known q l = g .chained .keys (getD vs q 0) (getD-in vs q 0 (rw (length-order (roundsOf m)) l))
 
     pair : (q : ℕ) → q < m .«values_len» → pairAt r q ≡ pairAt m (getD vs q 0)
     pair q l =
@@ -196,7 +197,7 @@ module _ (m : ListOrderedMultimap) (g : WellLinked m) (places : List ℕ) (o : L
         (λ k i. count-mem (at places k) (order (membersOf r)) (rw joined (below-in n (at places k) (new-is k (mem-count k ks i) .0))))
         (λ k i.
         let l : k < n = in-below n k (rw joined at (mem-count k (order (membersOf r)) i)) in
-        (getD ks k 0, count-mem (getD ks k 0) ks (nth-in ks k 0 (rw long l)), a .place k l))
+        (getD ks k 0, count-mem (getD ks k 0) ks (getD-in ks k 0 (rw long l)), a .place k l))
         (λ j k mj mk e. sym (new-is j (mem-count j ks mj) .1) ∙ ap (λ (x : ℕ). getD ks x 0) e ∙ new-is k (mem-count k ks mk) .1)
         (λ k i. omega (arith, new-is k (mem-count k ks i) .0, g .index .few, long))
         (λ k i. number-new k (mem-count k ks i))
@@ -208,7 +209,7 @@ module _ (m : ListOrderedMultimap) (g : WellLinked m) (places : List ℕ) (o : L
           some =
               λ k i.
               let l : k < n = in-below n k (rw joined at i) in
-              rw (record-long k l) (g .some (getD ks k 0) (nth-in ks k 0 (rw long l)));
+              rw (record-long k l) (g .some (getD ks k 0) (getD-in ks k 0 (rw long l)));
           index = holds;
           taken = rw (t .taken, s .taken) (g .taken);
         }

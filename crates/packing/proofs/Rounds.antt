@@ -12,11 +12,12 @@ use Rattle.links.specs.Places.{Places, put, order}
 use Rattle.links.specs.Links.{Links, base, Chained, added}
 use Rattle.links.proofs.Puts.{put-hit, put-miss}
 use Rattle.links.proofs.Bare.{bare-order, bare-linked}
-use Rattle.links.proofs.Lists.{length-order, in-array, last-in, at-most-root}
+use Rattle.links.proofs.Lists.{length-order, in-array, last-fits}
 use Rattle.links.proofs.Chains.{added-chained, tail-fits, size-in}
 use Rattle.multimap.specs.Map.{at, keyAt, valueAt, roundsOf, membersOf, linksOf}
 use Rattle.multimap.specs.declared.ListOrderedMultimap.{ListOrderedMultimap}
-use Rattle.multimap.proofs.Stores.{at-set, key-set, value-set₂, Sized, places-eq, links-eq}
+use Rattle.multimap.proofs.Stores.{key-set, Sized}
+use Rattle.multimap.proofs.Additions.{with-round, round-stored}
 use Rattle.packing.specs.Moves.{Movable, RoundsMoved, SameMembers}
 use Rattle.packing.proofs.Walks.{walk-first, walk-few, walk-nth, walk-in, walk-fits, walk-next, order-up}
 use Rattle.packing.proofs.Clears.{value-end}
@@ -160,8 +161,8 @@ module _ (m : ListOrderedMultimap) (places : List ℕ) (h : Movable m places) wh
     to-fits : i < 1024
     to-fits = omega (arith, more, walk-few l (h .rounds))
 
-    last-fits : last < 1025
-    last-fits = omega (arith, at-most-root (roundsOf o) (t .moved .chained .rounds) last (last-in (roundsOf o) (t .moved .chained .rounds)))
+    back-fits : last < 1025
+    back-fits = omega (arith, last-fits (roundsOf o) (t .moved .chained .rounds))
 
     place-fits : key < 256
     place-fits = in-array (membersOf o) (t .moved .chained .members) key here
@@ -175,7 +176,7 @@ module _ (m : ListOrderedMultimap) (places : List ℕ) (h : Movable m places) wh
         record {
           from = walk-fits l (h .rounds) i x more (t .here);
           to = to-fits;
-          back = last-fits;
+          back = back-fits;
           member = h .old x (walk-in l (h .rounds) i x more (t .here));
           place = place-fits;
           end = end-fits;
@@ -184,41 +185,12 @@ module _ (m : ListOrderedMultimap) (places : List ℕ) (h : Movable m places) wh
 
     -- the stores of a turn
     abbrev pub stored : ListOrderedMultimap
-    stored =
-        record {
-          keys = o .keys;
-          length = set (o .length) key (at (o .length) key + 1);
-          «next_key» = o .«next_key»;
-          «previous_key» = o .«previous_key»;
-          values = set (o .values) i (at (m .values) x);
-          «key_index» = set (o .«key_index») i (record { 0 = key });
-          «next_value» = set (set (o .«next_value») last (record { 0 = i })) i (record { 0 = 1024 });
-          «previous_value» = set (set (o .«previous_value») i (record { 0 = last })) 1024 (record { 0 = i });
-          «next_index» = set (set (o .«next_index») tail (record { 0 = i })) i (record { 0 = 1024 + key });
-          «previous_index» = set (set (o .«previous_index») i (record { 0 = tail })) (1024 + key) (record { 0 = i });
-          index = o .index;
-          «keys_len» = o .«keys_len»;
-          «keys_fresh» = o .«keys_fresh»;
-          «keys_free» = o .«keys_free»;
-          «values_len» = i + 1;
-          «values_fresh» = i + 1;
-          «values_free» = o .«values_free»;
-          taken = o .taken;
-        }
+    stored = with-round o i key (at (m .values) x) (i + 1) (i + 1) (o .«values_free») (o .taken)
 
     links : linksOf stored ≡ added (linksOf o) key
     links =
-        let s = t .sized in
-        links-eq (linksOf stored) _
-        (places-eq (roundsOf stored) _
-        (value-set₂ (o .«next_value») last (record { 0 = i }) i (record { 0 = 1024 }) 1025 (s .next-value) last-fits (omega (arith, to-fits)))
-        (value-set₂ (o .«previous_value») i (record { 0 = last }) 1024 (record { 0 = i }) 1025 (s .previous-value) (omega (arith, to-fits)) (omega arith))
-        refl refl refl refl)
-        refl
-        (key-set (o .«key_index») i (record { 0 = key }) (rw (s .key-index) to-fits))
-        (value-set₂ (o .«next_index») tail (record { 0 = i }) i (record { 0 = 1024 + key }) 1280 (s .next-index) end-fits (omega (arith, to-fits)))
-        (value-set₂ (o .«previous_index») i (record { 0 = tail }) (1024 + key) (record { 0 = i }) 1280 (s .previous-index) (omega (arith, to-fits)) (omega (arith, place-fits)))
-        (at-set (o .length) key (at (o .length) key + 1) (rw (s .lengths) place-fits))
+        round-stored o i key (at (m .values) x) (i + 1) (i + 1) (o .«values_free») (o .taken) (t .sized) to-fits place-fits
+        (last-fits (roundsOf o) (t .moved .chained .rounds)) end-fits
         ∙ sym (added-up (linksOf o) key i (t .moved .len) (t .moved .fresh))
 
     key-at : (q : ℕ) → keyAt (stored .«key_index») q ≡ put (keyAt (o .«key_index»)) i key q

@@ -8,17 +8,15 @@ use borrow.Author.Tests.{eq-eqb}
 use lib.ListN.{length, getD}
 use Rattle.links.specs.Path.{count}
 use Rattle.links.specs.Places.{Places, put, order, Linked, vacancy, pushed}
-use Rattle.links.proofs.Paths.{Once, path-start, path-step}
-use Rattle.links.proofs.Lists.{length-order, order-once, in-array, pushed-order}
+use Rattle.links.proofs.Paths.{path-start, path-step}
+use Rattle.links.proofs.Lists.{length-order, in-array, pushed-order}
+use Rattle.multimap.proofs.Copies.{getD-in}
 use Rattle.packing.specs.Moves.{upTo}
-use Rattle.packing.proofs.Lists.{nth-any, nth-in, up-more}
+use Rattle.packing.proofs.Lists.{nth-any, up-more}
 
 module _ (l : Places) (g : Linked l) where
   pub walk-first : l .next (l .root) ≡ getD (order l) 0 (l .root)
   walk-first = path-start (l .next) (l .prev) (l .root) (order l) (l .root) (g .path)
-
-  pub walk-once : Once (order l)
-  walk-once q = omega (arith, order-once l g q)
 
   pub walk-few : l .len ≤ l .root
   walk-few = omega (arith, g .some-used, g .some-fresh)
@@ -31,7 +29,7 @@ module _ (l : Places) (g : Linked l) where
     walk-nth = here ∙ nth-any (order l) i (l .root) 0 inside
 
     pub walk-in : 0 < count x (order l)
-    walk-in = rw here (nth-in (order l) i (l .root) inside)
+    walk-in = rw here (getD-in (order l) i (l .root) inside)
 
     pub walk-fits : x < l .root
     walk-fits = in-array l g x walk-in

@@ -10,15 +10,14 @@ use Rattle.steps.specs.State as St
 use Rattle.steps.specs.State.{State}
 use Rattle.steps.specs.Call.{none, round, count, refused, occupied, vacant, get, get-all, entry-len, contains-key, entry}
 use Rattle.steps.specs.Call as C
-use Rattle.steps.specs.Step.{step, checks, act, say, write, first, over, short, entryOf}
+use Rattle.steps.specs.Step.{step, checks, act, refusing, say, write, first, over, short, entryOf}
 use Rattle.steps.specs.Trace.{Does}
 use Rattle.steps.proofs.Doing.{does-stay, does-refuse}
-use Rattle.steps.specs.Step.{refusing}
 use Rattle.links.specs.Links.{recordIn}
 use Rattle.multimap.specs.Map.{at, valueAt, pairs, linksOf, stateOf}
 use Rattle.multimap.specs.WellLinked.{WellLinked, linked}
 use Rattle.multimap.specs.declared.ListOrderedMultimap.{ListOrderedMultimap}
-use Rattle.multimap.proofs.Records.{NoMember, Member, head-first}
+use Rattle.multimap.proofs.Records.{NoMember, Member, first-round}
 
 -- ---- what the steps come to
 
@@ -71,8 +70,7 @@ module _ (m : ListOrderedMultimap) (g : WellLinked m) (k : ℕ) where
   module _ (x : ℕ) (h : Member m k x) where
     pub got-round : Does linked (get k) m (say (round (at (m .values) (valueAt (m .«next_index») (1024 + x))))) m
     got-round =
-        does-stay linked (get k) m _ refl g
-        (step-get k (stateOf m) ∙ ap (λ (l : List ℕ). (say (first l), stateOf m)) (h .rounds ∙ ap (map (at (m .values))) (head-first m g k x h .1)))
+        does-stay linked (get k) m _ refl g (step-get k (stateOf m) ∙ rw (first-round m g k x h))
 
     pub counted : Does linked (entry-len k) m (say (count (at (m .length) x))) m
     counted = does-stay linked (entry-len k) m _ refl g (step-len k (stateOf m) ∙ ap (λ (n : ℕ). (say (count n), stateOf m)) (h .many))

@@ -1,22 +1,20 @@
 -- The calls that read the lists of members and of rounds, or a count, do their steps. Assumes nothing.
 use Prim.Native.Nat.{ℕ, _≤_, _<_}
 use mathlib.Core.Path.{_≡_, refl, sym, ap, _∙_}
-use mathlib.Core.Bool.{Bool, true, false, _||_}
-use mathlib.Core.List.{List, map}
+use mathlib.Core.Bool.{true, false, _||_, or-true}
+use mathlib.Core.List.{List, map, map-map}
 use borrow.Author.Tests.{lt-ltb, le-ltb}
 use lib.ListN.{length}
 use Rattle.steps.specs.State.{State}
 use Rattle.steps.specs.Call.{count, refused, lend, keys, keys-len, values-len, iter, taken}
-use Rattle.steps.specs.Step.{step, checks, act, say, write, over, short}
+use Rattle.steps.specs.Step.{step, checks, act, refusing, say, write, over, short}
 use Rattle.steps.specs.Trace.{Does}
 use Rattle.steps.proofs.Doing.{does-stay, does-refuse}
-use Rattle.steps.specs.Step.{refusing}
 use Rattle.links.specs.Places.{order}
 use Rattle.multimap.specs.Map.{at, keyAt, pairAt, pairs, members, roundsOf, stateOf}
 use Rattle.multimap.specs.WellLinked.{WellLinked, linked}
 use Rattle.multimap.specs.declared.ListOrderedMultimap.{ListOrderedMultimap}
 use Rattle.multimap.proofs.Stores.{length-pairs, length-members}
-use Rattle.multimap.proofs.Records.{map-map}
 
 -- ---- what the steps come to
 
@@ -54,10 +52,6 @@ module _ (s : State) where
     step-iter e = rw e
 
 -- ---- the calls
-
-or-true : (b : Bool) → (b || true) ≡ true
-or-true true = refl
-or-true false = refl
 
 module _ (m : ListOrderedMultimap) (g : WellLinked m) where
   pub keys-counted : Does linked keys-len m (say (count (m .«keys_len»))) m

@@ -29,6 +29,18 @@ module _ {A : Type 0} where
       go true ih = rw ih
       go false ih = ih
 
+  -- two tests at once, or one after the other
+  pub filter-fuse : (f g : A → Bool) (xs : List A) → filter (λ q. f q && g q) xs ≡ filter f (filter g xs)
+  filter-fuse f g [] = refl
+  filter-fuse f g (x ∷ xs) = go (f x) (g x) refl (filter-fuse f g xs)
+    where
+      go : (a b : Bool) → f x ≡ a → filter (λ q. f q && g q) xs ≡ filter f (filter g xs)
+          → cond (a && b) (x ∷ filter (λ q. f q && g q) xs) (filter (λ q. f q && g q) xs) ≡ filter f (cond b (x ∷ filter g xs) (filter g xs))
+      go true true u e = rw u (ap (λ (l : List _). x ∷ l) e)
+      go true false u e = e
+      go false true u e = rw u e
+      go false false u e = e
+
   -- what passes f passes g: filtering by g before f makes no difference
   pub filter-in : (f g : A → Bool) → ((x : A) → f x ≡ true → g x ≡ true) → (l : List A) → filter f (filter g l) ≡ filter f l
   filter-in f g h [] = refl

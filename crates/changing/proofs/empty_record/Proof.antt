@@ -2,15 +2,12 @@
 use Prim.Native.Nat.{_<_}
 use native.Mathlib.Omega.{arith}
 use borrow.Author.Needs.{needs}
-use Rattle.changing.proofs.Records.{key-fits, record-stretch, emptied}
+use Rattle.changing.proofs.Records.{its-member, record-stretch, emptied}
 use Rattle.changing.proofs.empty_record.Statement.{statement}
 use Rattle.changing.proofs.empty_record.Tie as tie
-use Rattle.changing.proofs.empty_record.Reads as reads
-use Rattle.changing.proofs.empty_record.Lts as lts
-use Rattle.changing.proofs.strike.Reads as strike-reads
 
 fits : (s : tie.Start) → s .args .key < 256
-fits s = key-fits (s .args .m) (s .args .key) (s .pre)
+fits s = its-member (s .args .m) (s .args .key) (s .pre) .inside
 
 add-root : tie.Need-add-root
 add-root c = record { fits = omega (arith, fits (c .before .before)) }

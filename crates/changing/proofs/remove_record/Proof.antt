@@ -3,10 +3,6 @@ use borrow.Author.Needs.{needs}
 use Rattle.changing.proofs.Records.{record-sweepable, record-removed}
 use Rattle.changing.proofs.remove_record.Statement.{statement}
 use Rattle.changing.proofs.remove_record.Tie as tie
-use Rattle.changing.proofs.remove_record.Reads as reads
-use Rattle.changing.proofs.remove_record.Lts as lts
-use Rattle.changing.proofs.empty_record.Reads as empty-record-reads
-use Rattle.changing.proofs.sweep.Reads as sweep-reads
 
 empty-record-requires : tie.Need-empty-record-requires
 empty-record-requires c κs = search needs

@@ -1,4 +1,4 @@
--- `changing::strike` meets its contract, by the laws of proofs/Turns.antt. Assumes nothing.
+-- `changing::strike` meets its contract, by the laws of proofs/Strikes.antt. Assumes nothing.
 use Prim.Native.Nat.{ℕ, _-_, _<_}
 use mathlib.Core.Path.{sym, _∙_}
 use mathlib.Core.Logic.{⊎-elim}
@@ -8,37 +8,17 @@ use Rattle.links.specs.Path.{count}
 use Rattle.links.specs.Places.{order}
 use Rattle.multimap.specs.Map.{at, roundsOf, linksOf}
 use Rattle.multimap.specs.declared.ListOrderedMultimap.{ListOrderedMultimap}
-use Rattle.multimap.proofs.Stores.{Sized, unmapped}
+use Rattle.multimap.proofs.Sizes.{sized}
 use Rattle.changing.specs.Strike.{Stretch}
-use Rattle.changing.proofs.Turns.{Turned, turned-none, turned-all, turned-kept, turned-struck, q-in, onward-cond, Bounds, bounds}
+use Rattle.changing.proofs.Strikes.{Turned, turned-none, turned-all, turned-kept, turned-struck, q-in, onward-cond, Bounds, bounds}
 use Rattle.changing.proofs.strike.Statement.{statement}
 use Rattle.changing.proofs.strike.Tie as tie
-use Rattle.changing.proofs.strike.Reads as reads
-use Rattle.changing.proofs.strike.Lts as lts
-use Rattle.changing.proofs.choose.Reads as choose-reads
-use Rattle.changing.proofs.dropped.Reads as dropped-reads
 
 abbrev Inv-loop : tie.InvT-loop
 Inv-loop chain start turns marks out₀ at₀ i₀ out at i = (h : Stretch chain out₀ start turns) → Turned chain out₀ start turns h marks i at out
 
 abbrev μ-loop : tie.MeasureT-loop
 μ-loop chain start turns marks out₀ at₀ i₀ out at i = turns - i
-
-sized : (c : tie.Start Inv-loop μ-loop) → Sized (c .args .m)
-sized c =
-    record {
-      keys = search needs;
-      lengths = search needs;
-      next-key = search unmapped;
-      previous-key = search unmapped;
-      values = search needs;
-      key-index = search unmapped;
-      next-value = search unmapped;
-      previous-value = search unmapped;
-      next-index = search unmapped;
-      previous-index = search unmapped;
-      index = search needs;
-    }
 
 -- in a turn: the place is one of a round, and the stores stay in the arrays
 module _ (l : tie.In-loop Inv-loop μ-loop) where
@@ -68,7 +48,7 @@ abbrev stored : tie.After-struct-known2 Inv-loop μ-loop → tie.In-loop Inv-loo
 stored c = struck-one (c .before .before .before .before .before .before .before)
 
 loop-holds : tie.Need-loop-holds Inv-loop μ-loop
-loop-holds c = λ h. turned-none (c .before .args .chain) (c .before .args .m) (c .before .args .start) (c .before .args .turns) h (c .before .args .marks .now) (sized (c .before))
+loop-holds c = λ h. turned-none (c .before .args .chain) (c .before .args .m) (c .before .args .start) (c .before .args .turns) h (c .before .args .marks .now) (sized (c .before .args .m) (c .before .good .0))
 
 cast-x : tie.Need-cast-x Inv-loop μ-loop
 cast-x c = let b = fits c in record { fits = omega arith }

@@ -7,36 +7,17 @@ use Rattle.links.specs.Path.{count}
 use Rattle.links.specs.Places.{order}
 use Rattle.multimap.specs.Map.{at, membersOf}
 use Rattle.multimap.specs.declared.ListOrderedMultimap.{ListOrderedMultimap}
-use Rattle.multimap.proofs.Stores.{Sized, unmapped}
+use Rattle.multimap.proofs.Sizes.{sized}
 use Rattle.changing.specs.Sweep.{Sweepable}
-use Rattle.changing.proofs.Sweeps.{Passing, passing-none, passing-all, passing-kept, passing-left, q-in, shut-gap, Bounds, bounds}
+use Rattle.changing.proofs.Sweeps.{Turned, turned-none, turned-all, turned-kept, turned-left, q-in, shut-gap, Bounds, bounds}
 use Rattle.changing.proofs.sweep.Statement.{statement}
 use Rattle.changing.proofs.sweep.Tie as tie
-use Rattle.changing.proofs.sweep.Reads as reads
-use Rattle.changing.proofs.sweep.Lts as lts
-use Rattle.index.proofs.remove.Reads as remove-reads
 
 abbrev Inv-loop : tie.InvT-loop
-Inv-loop start turns keys out₀ at₀ i₀ out at i = (h : Sweepable out₀ start turns) → Passing out₀ start turns h i at out
+Inv-loop start turns keys out₀ at₀ i₀ out at i = (h : Sweepable out₀ start turns) → Turned out₀ start turns h i at out
 
 abbrev μ-loop : tie.MeasureT-loop
 μ-loop start turns keys out₀ at₀ i₀ out at i = turns - i
-
-sized : (c : tie.Start Inv-loop μ-loop) → Sized (c .args .m)
-sized c =
-    record {
-      keys = search needs;
-      lengths = search needs;
-      next-key = search unmapped;
-      previous-key = search unmapped;
-      values = search needs;
-      key-index = search unmapped;
-      next-value = search unmapped;
-      previous-value = search unmapped;
-      next-index = search unmapped;
-      previous-index = search unmapped;
-      index = search needs;
-    }
 
 module _ (l : tie.In-loop Inv-loop μ-loop) where
   abbrev s : tie.Start Inv-loop μ-loop
@@ -48,7 +29,7 @@ module _ (l : tie.In-loop Inv-loop μ-loop) where
   abbrev x : ℕ
   x = l .before .loop .at
 
-  t : Passing (s .args .m) (s .args .start) (s .args .turns) (s .pre) (l .before .loop .i) x o
+  t : Turned (s .args .m) (s .args .start) (s .args .turns) (s .pre) (l .before .loop .i) x o
   t = l .before .loop .inv (s .pre)
 
   inside : 0 < count x (order (membersOf o))
@@ -65,7 +46,7 @@ abbrev removed : tie.After-struct-known Inv-loop μ-loop → tie.In-loop Inv-loo
 removed c = empty-one (c .before .before .before .before .before .before)
 
 loop-holds : tie.Need-loop-holds Inv-loop μ-loop
-loop-holds c = λ h. passing-none (c .before .args .m) (c .before .args .start) (c .before .args .turns) h (sized (c .before))
+loop-holds c = λ h. turned-none (c .before .args .m) (c .before .args .start) (c .before .args .turns) h (sized (c .before .args .m) (c .before .good .0))
 
 cast-x : tie.Need-cast-x Inv-loop μ-loop
 cast-x c = let b = fits c in record { fits = omega arith }
@@ -141,18 +122,18 @@ loop-again c =
     ⊎-elim
     (λ w.
     rw (w .8)
-    (passing-left (s .args .m) (s .args .start) (s .args .turns) h (a .loop .i) (a .loop .at) (a .loop .out) t (l .loop-test .taken) (w .0 .taken)
+    (turned-left (s .args .m) (s .args .start) (s .args .turns) h (a .loop .i) (a .loop .at) (a .loop .out) t (l .loop-test .taken) (w .0 .taken)
     (w .5 .last .0) (shut-gap (s .args .m) (a .loop .out) (t .kept) (t .sound) (a .loop .at) i (w .5 .last .0) (w .5 .ensures))))
     (λ w.
     rw (w .1)
-    (passing-kept (s .args .m) (s .args .start) (s .args .turns) h (a .loop .i) (a .loop .at) (a .loop .out) t (l .loop-test .taken) (w .0 .left)))
+    (turned-kept (s .args .m) (s .args .start) (s .args .turns) h (a .loop .i) (a .loop .at) (a .loop .out) t (l .loop-test .taken) (w .0 .left)))
     (c .if1 .came)
 
 returns : tie.Need-returns Inv-loop μ-loop
 returns c =
     let a = c .before in
     let s = a .before .before in
-    passing-all (s .args .m) (s .args .start) (s .args .turns) (s .pre) (a .loop .i) (a .loop .at) (a .loop .out) (a .loop .inv (s .pre)) (c .loop-test .left)
+    turned-all (s .args .m) (s .args .start) (s .args .turns) (s .pre) (a .loop .i) (a .loop .at) (a .loop .out) (a .loop .inv (s .pre)) (c .loop-test .left)
 
 pub sweep-spec : {M : Type 1} → statement M
 sweep-spec =

@@ -5,7 +5,7 @@ use native.Mathlib.Omega.{arith}
 use borrow.Author.Needs.{needs}
 use Rattle.links.specs.Path.{walk}
 use Rattle.multimap.specs.Map.{keyAt}
-use Rattle.multimap.proofs.Stores.{Sized, unmapped}
+use Rattle.multimap.proofs.Sizes.{sized}
 use Rattle.packing.proofs.Members.{MembersTurned, members-none, members-more, members-all, Fits, fits}
 use Rattle.packing.proofs.move_members.Statement.{statement}
 use Rattle.packing.proofs.move_members.Tie as tie
@@ -16,22 +16,6 @@ Inv-loop keys next-key held places₀ out₀ x₀ i₀ places out x i =
 
 abbrev μ-loop : tie.MeasureT-loop
 μ-loop keys next-key held places₀ out₀ x₀ i₀ places out x i = held - i
-
-sized : (c : tie.Start Inv-loop μ-loop) → Sized (c .args .m)
-sized c =
-    record {
-      keys = search needs;
-      lengths = search needs;
-      next-key = search unmapped;
-      previous-key = search unmapped;
-      values = search needs;
-      key-index = search unmapped;
-      next-value = search unmapped;
-      previous-value = search unmapped;
-      next-index = search unmapped;
-      previous-index = search unmapped;
-      index = search needs;
-    }
 
 -- where a turn reads and stores
 bounds : (l : tie.In-loop Inv-loop μ-loop) → Fits (l .before .loop .at) (l .before .loop .i) (keyAt (l .before .loop .out .«previous_key») 256)
@@ -49,7 +33,7 @@ element-set-from-out-2 : tie.Need-element-set-from-out-2 Inv-loop μ-loop
 element-set-from-out-2 c = search needs
 
 loop-holds : tie.Need-loop-holds Inv-loop μ-loop
-loop-holds c = let s = c .before .before .before in members-none (s .args .m) (s .pre) (sized s) _ (omega arith)
+loop-holds c = let s = c .before .before .before in members-none (s .args .m) (s .pre) (sized (s .args .m) (s .good .0)) _ (omega arith)
 
 cast-x : tie.Need-cast-x Inv-loop μ-loop
 cast-x c = omega (arith, bounds c)

@@ -6,7 +6,7 @@ use borrow.Author.Needs.{needs}
 use Rattle.links.specs.Path.{walk}
 use Rattle.multimap.specs.Map.{at, keyAt, valueAt}
 use Rattle.multimap.specs.declared.ListOrderedMultimap.{ListOrderedMultimap}
-use Rattle.multimap.proofs.Stores.{Sized, unmapped}
+use Rattle.multimap.proofs.Sizes.{sized}
 use Rattle.packing.proofs.Rounds.{RoundsTurned, rounds-none, rounds-more, rounds-all, Fits, fits}
 use Rattle.packing.proofs.move_rounds.Statement.{statement}
 use Rattle.packing.proofs.move_rounds.Tie as tie
@@ -17,22 +17,6 @@ Inv-loop places values key-index next-value held out₀ x₀ i₀ out x i =
 
 abbrev μ-loop : tie.MeasureT-loop
 μ-loop places values key-index next-value held out₀ x₀ i₀ out x i = held - i
-
-sized : (c : tie.Start Inv-loop μ-loop) → Sized (c .args .m)
-sized c =
-    record {
-      keys = search needs;
-      lengths = search needs;
-      next-key = search unmapped;
-      previous-key = search unmapped;
-      values = search needs;
-      key-index = search unmapped;
-      next-value = search unmapped;
-      previous-value = search unmapped;
-      next-index = search unmapped;
-      previous-index = search unmapped;
-      index = search needs;
-    }
 
 -- where a turn reads and stores
 module _ (l : tie.In-loop Inv-loop μ-loop) where
@@ -62,7 +46,7 @@ element-set-from-out-2 : tie.Need-element-set-from-out-2 Inv-loop μ-loop
 element-set-from-out-2 c = search needs
 
 loop-holds : tie.Need-loop-holds Inv-loop μ-loop
-loop-holds c = let s = c .before .before .before .before in rounds-none (s .args .m) (s .args .t2) (s .pre) (sized s)
+loop-holds c = let s = c .before .before .before .before in rounds-none (s .args .m) (s .args .t2) (s .pre) (sized (s .args .m) (s .good .0))
 
 cast-x : tie.Need-cast-x Inv-loop μ-loop
 cast-x c = omega (arith, bounds c)

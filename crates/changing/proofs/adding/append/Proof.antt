@@ -3,8 +3,9 @@ use Prim.Native.Nat.{_<_}
 use mathlib.Core.Path.{sym, _∙_}
 use native.Mathlib.Omega.{arith}
 use borrow.Author.Needs.{needs}
-use Rattle.multimap.proofs.States.{Known, Unknown, present-at, absent-at}
-use Rattle.changing.proofs.Posts.{open-known, joins-unknown, posted-known, append-full, append-crowded, append-known, append-new}
+use Rattle.multimap.proofs.Records.{Member, found}
+use Rattle.multimap.proofs.States.{Unknown, absent-at}
+use Rattle.changing.proofs.Posts.{ready-known, joins-unknown, posted-known, append-full, append-crowded, append-known, append-new}
 use Rattle.changing.proofs.adding.append.Statement.{statement}
 use Rattle.changing.proofs.adding.append.Tie as tie
 
@@ -16,8 +17,8 @@ module _ (c : tie.After-find) where
   room : s .args .m .«values_len» < 1024
   room = omega (arith, c .before .before .before .before .before .if1 .left)
 
-known : (c : tie.After-found) → Known (s (c .before .before) .args .m) (s (c .before .before) .args .k) (c .found .given .0 .1 .0 .0)
-known c = let f = c .before .before in present-at (s f .args .m) (s f .pre) (s f .args .k) _ _ _ (sym (f .find .ensures) ∙ c .found .given .1)
+member : (c : tie.After-found) → Member (s (c .before .before) .args .m) (s (c .before .before) .args .k) (c .found .given .0 .1 .0 .0)
+member c = let f = c .before .before in found (s f .args .m) (s f .pre) (s f .args .k) _ _ _ (sym (f .find .ensures) ∙ c .found .given .1)
 
 unknown : (c : tie.After-found2) → Unknown (s (c .before .before) .args .m) (s (c .before .before) .args .k) (c .found2 .given .0 .0)
 unknown c = let f = c .before .before in absent-at (s f .args .m) (s f .pre) (s f .args .k) _ _ (sym (f .find .ensures) ∙ c .found2 .given .1)
@@ -34,7 +35,7 @@ enum-known-found c = search needs
 add-round-requires : tie.Need-add-round-requires
 add-round-requires c κs =
     let f = c .before .before .before in
-    open-known (s f .args .m) (s f .args .k) _ (s f .pre) (room f) (known (c .before))
+    ready-known (s f .args .m) (s f .args .k) _ (s f .pre) (room f) (member (c .before))
 
 enum-known-found-2 : tie.Need-enum-known-found-2
 enum-known-found-2 c = search needs
@@ -53,8 +54,8 @@ returns-3 : tie.Need-returns-3
 returns-3 c =
     let k = c .before .before in
     let f = k .before .before in
-    append-known (s f .args .k) (s f .args .v) (s f .args .m) _ _ (room f) (known k)
-    (posted-known (s f .args .m) (s f .args .k) _ (s f .args .v) _ (known k) (c .add-round .ensures))
+    append-known (s f .args .k) (s f .args .v) (s f .args .m) _ _ (room f) (member k)
+    (posted-known (s f .args .m) (s f .args .k) _ (s f .args .v) _ (member k) (c .add-round .ensures))
 
 returns-4 : tie.Need-returns-4
 returns-4 c =

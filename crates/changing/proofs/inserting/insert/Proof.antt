@@ -1,12 +1,14 @@
 -- `changing::inserting::insert` meets its contract, by the laws of proofs/Inserts.antt. Assumes nothing.
-use Prim.Native.Nat.{ℕ, _<_}
+use Prim.Native.Nat.{ℕ}
 use mathlib.Core.Path.{sym, _∙_}
 use native.Mathlib.Omega.{arith}
 use borrow.Author.Needs.{needs}
-use Rattle.multimap.proofs.States.{Known, Unknown, present-at, absent-at}
-use Rattle.changing.proofs.Records.{key-fits, head-fits}
+use Rattle.multimap.proofs.Records.{Member, found, head-place}
+use Rattle.multimap.proofs.States.{Unknown, absent-at}
+use Rattle.changing.specs.Strike.{MemberPlace}
+use Rattle.changing.proofs.Records.{place-of}
 use Rattle.changing.proofs.Posts.{joins-unknown}
-use Rattle.changing.proofs.Inserts.{member-known, insert-known, insert-full, insert-crowded, insert-new}
+use Rattle.changing.proofs.Inserts.{insert-known, insert-full, insert-crowded, insert-new}
 use Rattle.changing.proofs.inserting.insert.Statement.{statement}
 use Rattle.changing.proofs.inserting.insert.Tie as tie
 
@@ -21,11 +23,11 @@ module _ (c : tie.After-known-told) where
   abbrev x : ℕ
   x = c .before .found .given .0 .1 .0 .0
 
-  known : Known (s .args .m) (s .args .k) x
-  known = present-at (s .args .m) (s .pre) (s .args .k) _ _ _ (sym (c .before .before .before .find .ensures) ∙ c .before .found .given .1)
+  member : Member (s .args .m) (s .args .k) x
+  member = found (s .args .m) (s .pre) (s .args .k) _ _ _ (sym (c .before .before .before .find .ensures) ∙ c .before .found .given .1)
 
-  fits : x < 256
-  fits = key-fits (s .args .m) x (member-known (s .args .k) (s .args .v) (s .args .m) (s .pre) x known)
+  place : MemberPlace (s .args .m) x
+  place = place-of (s .args .m) (s .pre) (s .args .k) x member
 
 -- or none
 module _ (c : tie.After-known-told2) where
@@ -42,7 +44,7 @@ enum-known-found : tie.Need-enum-known-found
 enum-known-found c = search needs
 
 add-root : tie.Need-add-root
-add-root c = record { fits = omega (arith, fits (c .before)) }
+add-root c = record { fits = omega (arith, member (c .before) .inside) }
 
 cast-head : tie.Need-cast-head
 cast-head c = search needs
@@ -51,7 +53,7 @@ mul-head : tie.Need-mul-head
 mul-head c = search needs
 
 array-copy-out-head : tie.Need-array-copy-out-head
-array-copy-out-head c = omega (arith, fits (c .before))
+array-copy-out-head c = omega (arith, member (c .before) .inside)
 
 cast-round : tie.Need-cast-round
 cast-round c = search needs
@@ -60,10 +62,10 @@ mul-round : tie.Need-mul-round
 mul-round c = search needs
 
 array-read-round : tie.Need-array-read-round
-array-read-round c = let f = c .before .before .before .before in head-fits (s f .args .m) (x f) (member-known (s f .args .k) (s f .args .v) (s f .args .m) (s f .pre) (x f) (known f))
+array-read-round c = let f = c .before .before .before .before in head-place (s f .args .m) (s f .pre) (s f .args .k) (x f) (member f)
 
 empty-record-requires : tie.Need-empty-record-requires
-empty-record-requires c κs = let f = c .before .before .before .before in member-known (s f .args .k) (s f .args .v) (s f .args .m) (s f .pre) (x f) (known f)
+empty-record-requires c κs = let f = c .before .before .before .before in place f
 
 add-round-requires : tie.Need-add-round-requires
 add-round-requires c κs = search needs
@@ -84,7 +86,7 @@ returns-3 : tie.Need-returns-3
 returns-3 c =
     let e = c .before in
     let f = e .before .before .before .before .before in
-    insert-known (s f .args .k) (s f .args .v) (s f .args .m) (s f .pre) (x f) (known f) (e .empty-record .result) (e .empty-record .ensures) (c .add-round .result) (c .add-round .ensures)
+    insert-known (s f .args .k) (s f .args .v) (s f .args .m) (s f .pre) (x f) (member f) (e .empty-record .result) (e .empty-record .ensures) (c .add-round .result) (c .add-round .ensures)
 
 returns-4 : tie.Need-returns-4
 returns-4 c =

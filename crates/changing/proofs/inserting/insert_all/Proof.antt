@@ -1,13 +1,15 @@
 -- `changing::inserting::insert_all` meets its contract, by the laws of proofs/Inserts.antt. Assumes nothing.
-use Prim.Native.Nat.{ℕ, _<_}
+use Prim.Native.Nat.{ℕ}
 use mathlib.Core.Path.{sym, _∙_}
 use native.Mathlib.Omega.{arith}
 use borrow.Author.Needs.{needs}
-use Rattle.multimap.proofs.States.{Known, Unknown, present-at, absent-at}
-use Rattle.changing.proofs.Records.{key-fits}
+use Rattle.multimap.proofs.Records.{Member, found}
+use Rattle.multimap.proofs.States.{Unknown, absent-at}
+use Rattle.changing.specs.Strike.{MemberPlace}
+use Rattle.changing.proofs.Records.{place-of}
 use Rattle.changing.proofs.Removes.{copies}
 use Rattle.changing.proofs.Posts.{joins-unknown}
-use Rattle.changing.proofs.Inserts.{member-known, insert-all-short, insert-all-known, insert-all-full, insert-all-crowded, insert-all-new}
+use Rattle.changing.proofs.Inserts.{insert-all-short, insert-all-known, insert-all-full, insert-all-crowded, insert-all-new}
 use Rattle.changing.proofs.inserting.insert_all.Statement.{statement}
 use Rattle.changing.proofs.inserting.insert_all.Tie as tie
 
@@ -22,11 +24,11 @@ module _ (c : tie.After-known-told) where
   abbrev x : ℕ
   x = c .before .found .given .0 .1 .0 .0
 
-  known : Known (s .args .m) (s .args .k) x
-  known = present-at (s .args .m) (s .pre) (s .args .k) _ _ _ (sym (c .before .before .before .find .ensures) ∙ c .before .found .given .1)
+  member : Member (s .args .m) (s .args .k) x
+  member = found (s .args .m) (s .pre) (s .args .k) _ _ _ (sym (c .before .before .before .find .ensures) ∙ c .before .found .given .1)
 
-  fits : x < 256
-  fits = key-fits (s .args .m) x (member-known (s .args .k) (s .args .v) (s .args .m) (s .pre) x known)
+  place : MemberPlace (s .args .m) x
+  place = place-of (s .args .m) (s .pre) (s .args .k) x member
 
 -- or none
 module _ (c : tie.After-known-told2) where
@@ -49,16 +51,16 @@ mul-n : tie.Need-mul-n
 mul-n c = search needs
 
 array-read-n : tie.Need-array-read-n
-array-read-n c = fits (c .before)
+array-read-n c = member (c .before) .inside
 
 cast-count : tie.Need-cast-count
 cast-count c = search needs
 
 returns : tie.Need-returns
-returns c = let f = c .before .before in insert-all-short (s f .args .k) (s f .args .v) (s f .args .m) (s f .pre) (x f) (known f) (s f .args .out .now) (c .if1 .taken)
+returns c = let f = c .before .before in insert-all-short (s f .args .k) (s f .args .v) (s f .args .m) (s f .pre) (x f) (member f) (s f .args .out .now) (c .if1 .taken)
 
 add-root : tie.Need-add-root
-add-root c = record { fits = omega (arith, fits (c .before .before .before)) }
+add-root c = record { fits = omega (arith, member (c .before .before .before) .inside) }
 
 cast-head : tie.Need-cast-head
 cast-head c = search needs
@@ -67,16 +69,16 @@ mul-head : tie.Need-mul-head
 mul-head c = search needs
 
 array-copy-out-head : tie.Need-array-copy-out-head
-array-copy-out-head c = omega (arith, fits (c .before .before .before))
+array-copy-out-head c = omega (arith, member (c .before .before .before) .inside)
 
 copy-record-requires : tie.Need-copy-record-requires
 copy-record-requires c κs =
     let e = c .before .before .before .before .before in
     let f = e .before .before in
-    copies (s f .args .k) (s f .args .m) (s f .pre) (x f) (member-known (s f .args .k) (s f .args .v) (s f .args .m) (s f .pre) (x f) (known f)) (known f .number) (s f .args .out .now) (e .if1 .left)
+    copies (s f .args .k) (s f .args .m) (s f .pre) (x f) (member f) (s f .args .out .now) (e .if1 .left)
 
 empty-record-requires : tie.Need-empty-record-requires
-empty-record-requires c κs = let f = c .before .before .before .before .before .before .before .before .before .before in member-known (s f .args .k) (s f .args .v) (s f .args .m) (s f .pre) (x f) (known f)
+empty-record-requires c κs = let f = c .before .before .before .before .before .before .before .before .before .before in place f
 
 add-round-requires : tie.Need-add-round-requires
 add-round-requires c κs = search needs
@@ -102,7 +104,7 @@ returns-4 c =
     let w = r .before .before .before in
     let e = w .before .before .before .before .before .before in
     let f = e .before .before in
-    insert-all-known (s f .args .k) (s f .args .v) (s f .args .m) (s f .pre) (x f) (known f) (r .empty-record .result) (r .empty-record .ensures) (c .add-round .result) (c .add-round .ensures) (s f .args .out .now) _ (e .if1 .left)
+    insert-all-known (s f .args .k) (s f .args .v) (s f .args .m) (s f .pre) (x f) (member f) (r .empty-record .result) (r .empty-record .ensures) (c .add-round .result) (c .add-round .ensures) (s f .args .out .now) _ (e .if1 .left)
     (w .copy-record .ensures)
 
 returns-5 : tie.Need-returns-5

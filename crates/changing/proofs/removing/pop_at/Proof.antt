@@ -5,10 +5,6 @@ use Rattle.changing.proofs.Pops.{place-fits, key-fits, round-stretch, s
 use Rattle.multimap.specs.Map.{keyAt}
 use Rattle.changing.proofs.removing.pop_at.Statement.{statement}
 use Rattle.changing.proofs.removing.pop_at.Tie as tie
-use Rattle.changing.proofs.removing.pop_at.Reads as reads
-use Rattle.changing.proofs.removing.pop_at.Lts as lts
-use Rattle.changing.proofs.strike.Reads as strike-reads
-use Rattle.changing.proofs.sweep.Reads as sweep-reads
 
 module _ (s : tie.Start) where
   place : s .args .place < 1024

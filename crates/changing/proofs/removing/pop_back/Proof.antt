@@ -3,9 +3,6 @@ use borrow.Author.Needs.{needs}
 use Rattle.changing.proofs.Pops.{back-none, back-round, back-popped}
 use Rattle.changing.proofs.removing.pop_back.Statement.{statement}
 use Rattle.changing.proofs.removing.pop_back.Tie as tie
-use Rattle.changing.proofs.removing.pop_back.Reads as reads
-use Rattle.changing.proofs.removing.pop_back.Lts as lts
-use Rattle.changing.proofs.removing.pop_at.Reads as pop-at-reads
 
 returns : tie.Need-returns
 returns c = back-none (c .before .args .m) (c .before .pre) (c .if1 .taken)

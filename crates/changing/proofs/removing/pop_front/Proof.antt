@@ -3,9 +3,6 @@ use borrow.Author.Needs.{needs}
 use Rattle.changing.proofs.Pops.{front-none, front-round, front-popped}
 use Rattle.changing.proofs.removing.pop_front.Statement.{statement}
 use Rattle.changing.proofs.removing.pop_front.Tie as tie
-use Rattle.changing.proofs.removing.pop_front.Reads as reads
-use Rattle.changing.proofs.removing.pop_front.Lts as lts
-use Rattle.changing.proofs.removing.pop_at.Reads as pop-at-reads
 
 returns : tie.Need-returns
 returns c = front-none (c .before .args .m) (c .before .pre) (c .if1 .taken)

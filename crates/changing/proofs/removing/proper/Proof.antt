@@ -9,8 +9,6 @@ use lib.Seq.{drop-cons}
 use Rattle.changing.proofs.Retains.{proper, bad-mark, good-mark}
 use Rattle.changing.proofs.removing.proper.Statement.{statement}
 use Rattle.changing.proofs.removing.proper.Tie as tie
-use Rattle.changing.proofs.removing.proper.Reads as reads
-use Rattle.changing.proofs.removing.proper.Lts as lts
 
 abbrev Inv-loop : tie.InvT-loop
 Inv-loop marks i₀ i = (i ≤ length marks) × (proper marks ≡ proper (drop i marks))

@@ -1,18 +1,14 @@
 -- `changing::removing::remove` meets its contract, by the laws of proofs/Records.antt and proofs/Removes.antt. Assumes nothing.
-use Prim.Native.Nat.{ℕ, _<_}
-use mathlib.Core.Path.{_≡_, sym, _∙_}
+use Prim.Native.Nat.{ℕ}
+use mathlib.Core.Path.{sym, _∙_}
 use native.Mathlib.Omega.{arith}
 use borrow.Author.Needs.{needs}
-use Rattle.multimap.specs.Map.{at}
-use Rattle.changing.specs.Strike.{Member}
-use Rattle.changing.proofs.Records.{key-fits, head-fits}
-use Rattle.changing.proofs.Removes.{found, found-none, removed-none, removed}
+use Rattle.multimap.proofs.Records.{Member, found, not-found, head-place}
+use Rattle.changing.specs.Strike.{MemberPlace}
+use Rattle.changing.proofs.Records.{place-of}
+use Rattle.changing.proofs.Removes.{removed-none, removed}
 use Rattle.changing.proofs.removing.remove.Statement.{statement}
 use Rattle.changing.proofs.removing.remove.Tie as tie
-use Rattle.changing.proofs.removing.remove.Reads as reads
-use Rattle.changing.proofs.removing.remove.Lts as lts
-use Rattle.changing.proofs.remove_record.Reads as remove-record-reads
-use Rattle.index.proofs.find.Reads as find-reads
 
 abbrev entry : tie.After-find → tie.Start
 entry c = c .before .before .before .before .before
@@ -25,11 +21,11 @@ module _ (c : tie.After-known-told) where
   abbrev x : ℕ
   x = c .before .found .given .0 .1 .0 .0
 
-  member : Member (s .args .m) x × (at (s .args .m .keys) x ≡ s .args .k)
-  member = found (s .args .k) (s .args .m) (s .pre) _ _ _ (sym (c .before .before .before .find .ensures) ∙ c .before .found .given .1)
+  member : Member (s .args .m) (s .args .k) x
+  member = found (s .args .m) (s .pre) (s .args .k) _ _ _ (sym (c .before .before .before .find .ensures) ∙ c .before .found .given .1)
 
-  fits : x < 256
-  fits = key-fits (s .args .m) x (member .0)
+  place : MemberPlace (s .args .m) x
+  place = place-of (s .args .m) (s .pre) (s .args .k) x member
 
 find-requires : tie.Need-find-requires
 find-requires c κs = search needs
@@ -43,10 +39,10 @@ enum-told c = search needs
 returns : tie.Need-returns
 returns c =
     let s = entry (c .before .before) in
-    removed-none (s .args .k) (s .args .m) (s .pre) (found-none (s .args .k) (s .args .m) (s .pre) _ _ (sym (c .before .before .find .ensures) ∙ c .enum-told .given .1))
+    removed-none (s .args .k) (s .args .m) (s .pre) (not-found (s .args .m) (s .pre) (s .args .k) _ _ (sym (c .before .before .find .ensures) ∙ c .enum-told .given .1))
 
 add-root : tie.Need-add-root
-add-root c = record { fits = omega (arith, fits (c .before)) }
+add-root c = record { fits = omega (arith, member (c .before) .inside) }
 
 cast-head : tie.Need-cast-head
 cast-head c = search needs
@@ -55,7 +51,7 @@ mul-head : tie.Need-mul-head
 mul-head c = search needs
 
 array-copy-out-head : tie.Need-array-copy-out-head
-array-copy-out-head c = omega (arith, fits (c .before))
+array-copy-out-head c = omega (arith, member (c .before) .inside)
 
 cast-round : tie.Need-cast-round
 cast-round c = search needs
@@ -64,15 +60,15 @@ mul-round : tie.Need-mul-round
 mul-round c = search needs
 
 array-read-round : tie.Need-array-read-round
-array-read-round c = let f = c .before .before .before .before in head-fits (s f .args .m) (x f) (member f .0)
+array-read-round c = let f = c .before .before .before .before in head-place (s f .args .m) (s f .pre) (s f .args .k) (x f) (member f)
 
 remove-record-requires : tie.Need-remove-record-requires
-remove-record-requires c κs = member (c .before .before .before .before) .0
+remove-record-requires c κs = place (c .before .before .before .before)
 
 returns-2 : tie.Need-returns-2
 returns-2 c =
     let f = c .before .before .before .before .before in
-    removed (s f .args .k) (s f .args .m) (s f .pre) (x f) (member f .0) (member f .1) (c .remove-record .result) (c .remove-record .ensures)
+    removed (s f .args .k) (s f .args .m) (s f .pre) (x f) (member f) (c .remove-record .result) (c .remove-record .ensures)
 
 pub remove-spec : {M : Type 1} → statement M
 remove-spec =

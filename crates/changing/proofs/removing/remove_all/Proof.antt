@@ -1,19 +1,14 @@
 -- `changing::removing::remove_all` meets its contract, by the laws of proofs/Records.antt and proofs/Removes.antt. Assumes nothing.
-use Prim.Native.Nat.{ℕ, _<_}
-use mathlib.Core.Path.{_≡_, sym, _∙_}
+use Prim.Native.Nat.{ℕ}
+use mathlib.Core.Path.{sym, _∙_}
 use native.Mathlib.Omega.{arith}
 use borrow.Author.Needs.{needs}
-use Rattle.multimap.specs.Map.{at}
-use Rattle.changing.specs.Strike.{Member}
-use Rattle.changing.proofs.Records.{key-fits}
-use Rattle.changing.proofs.Removes.{found, found-none, removed-all-none, removed-all-short, copies, removed-all}
+use Rattle.multimap.proofs.Records.{Member, found, not-found}
+use Rattle.changing.specs.Strike.{MemberPlace}
+use Rattle.changing.proofs.Records.{place-of}
+use Rattle.changing.proofs.Removes.{removed-all-none, removed-all-short, copies, removed-all}
 use Rattle.changing.proofs.removing.remove_all.Statement.{statement}
 use Rattle.changing.proofs.removing.remove_all.Tie as tie
-use Rattle.changing.proofs.removing.remove_all.Reads as reads
-use Rattle.changing.proofs.removing.remove_all.Lts as lts
-use Rattle.changing.proofs.copy_record.Reads as copy-record-reads
-use Rattle.changing.proofs.remove_record.Reads as remove-record-reads
-use Rattle.index.proofs.find.Reads as find-reads
 
 abbrev entry : tie.After-find → tie.Start
 entry c = c .before .before .before .before .before .before
@@ -26,11 +21,11 @@ module _ (c : tie.After-known-told) where
   abbrev x : ℕ
   x = c .before .found .given .0 .1 .0 .0
 
-  member : Member (s .args .m) x × (at (s .args .m .keys) x ≡ s .args .k)
-  member = found (s .args .k) (s .args .m) (s .pre) _ _ _ (sym (c .before .before .before .find .ensures) ∙ c .before .found .given .1)
+  member : Member (s .args .m) (s .args .k) x
+  member = found (s .args .m) (s .pre) (s .args .k) _ _ _ (sym (c .before .before .before .find .ensures) ∙ c .before .found .given .1)
 
-  fits : x < 256
-  fits = key-fits (s .args .m) x (member .0)
+  place : MemberPlace (s .args .m) x
+  place = place-of (s .args .m) (s .pre) (s .args .k) x member
 
 find-requires : tie.Need-find-requires
 find-requires c κs = search needs
@@ -44,7 +39,7 @@ enum-told c = search needs
 returns : tie.Need-returns
 returns c =
     let s = entry (c .before .before) in
-    removed-all-none (s .args .k) (s .args .m) (s .pre) (found-none (s .args .k) (s .args .m) (s .pre) _ _ (sym (c .before .before .find .ensures) ∙ c .enum-told .given .1)) (s .args .out .now)
+    removed-all-none (s .args .k) (s .args .m) (s .pre) (not-found (s .args .m) (s .pre) (s .args .k) _ _ (sym (c .before .before .find .ensures) ∙ c .enum-told .given .1)) (s .args .out .now)
 
 cast-n : tie.Need-cast-n
 cast-n c = search needs
@@ -53,7 +48,7 @@ mul-n : tie.Need-mul-n
 mul-n c = search needs
 
 array-read-n : tie.Need-array-read-n
-array-read-n c = fits (c .before)
+array-read-n c = member (c .before) .inside
 
 cast-count : tie.Need-cast-count
 cast-count c = search needs
@@ -61,10 +56,10 @@ cast-count c = search needs
 returns-2 : tie.Need-returns-2
 returns-2 c =
     let f = c .before .before in
-    removed-all-short (s f .args .k) (s f .args .m) (s f .pre) (x f) (member f .0) (member f .1) (s f .args .out .now) (c .if1 .taken)
+    removed-all-short (s f .args .k) (s f .args .m) (s f .pre) (x f) (member f) (s f .args .out .now) (c .if1 .taken)
 
 add-root : tie.Need-add-root
-add-root c = record { fits = omega (arith, fits (c .before .before .before)) }
+add-root c = record { fits = omega (arith, member (c .before .before .before) .inside) }
 
 cast-head : tie.Need-cast-head
 cast-head c = search needs
@@ -73,16 +68,16 @@ mul-head : tie.Need-mul-head
 mul-head c = search needs
 
 array-copy-out-head : tie.Need-array-copy-out-head
-array-copy-out-head c = omega (arith, fits (c .before .before .before))
+array-copy-out-head c = omega (arith, member (c .before .before .before) .inside)
 
 copy-record-requires : tie.Need-copy-record-requires
 copy-record-requires c κs =
     let e = c .before .before .before .before .before in
     let f = e .before .before in
-    copies (s f .args .k) (s f .args .m) (s f .pre) (x f) (member f .0) (member f .1) (s f .args .out .now) (e .if1 .left)
+    copies (s f .args .k) (s f .args .m) (s f .pre) (x f) (member f) (s f .args .out .now) (e .if1 .left)
 
 remove-record-requires : tie.Need-remove-record-requires
-remove-record-requires c κs = member (c .before .before .before .before .before .before .before .before .before .before) .0
+remove-record-requires c κs = place (c .before .before .before .before .before .before .before .before .before .before)
 
 same-length : tie.Need-same-length
 same-length c = search needs
@@ -92,7 +87,7 @@ returns-3 c =
     let w = c .before .before .before in
     let e = w .before .before .before .before .before .before in
     let f = e .before .before in
-    removed-all (s f .args .k) (s f .args .m) (s f .pre) (x f) (member f .0) (member f .1) (c .remove-record .result) (c .remove-record .ensures) (s f .args .out .now) _ (e .if1 .left)
+    removed-all (s f .args .k) (s f .args .m) (s f .pre) (x f) (member f) (c .remove-record .result) (c .remove-record .ensures) (s f .args .out .now) _ (e .if1 .left)
     (w .copy-record .ensures)
 
 pub remove-all-spec : {M : Type 1} → statement M

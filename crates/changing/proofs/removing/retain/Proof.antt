@@ -5,11 +5,6 @@ use borrow.Author.Needs.{needs}
 use Rattle.changing.proofs.Retains.{refused-count, refused-value, all-stretch, all-sweepable, retained}
 use Rattle.changing.proofs.removing.retain.Statement.{statement}
 use Rattle.changing.proofs.removing.retain.Tie as tie
-use Rattle.changing.proofs.removing.retain.Reads as reads
-use Rattle.changing.proofs.removing.retain.Lts as lts
-use Rattle.changing.proofs.removing.proper.Reads as proper-reads
-use Rattle.changing.proofs.strike.Reads as strike-reads
-use Rattle.changing.proofs.sweep.Reads as sweep-reads
 
 cast-held : tie.Need-cast-held
 cast-held c = search needs

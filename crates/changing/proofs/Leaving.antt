@@ -1,4 +1,4 @@
--- Rounds are struck and the members without one leave: the map is well-linked, and its state is the old one thinned out. Assumes nothing.
+-- Rounds are struck and the members without one leave: the map is well-linked, and its state is the old one with the pairs and members that are left. Assumes nothing.
 use Prim.Native.Nat.{ℕ, suc, _<_}
 use mathlib.Core.Path.{_≡_, refl, sym, ap, _∙_, subst}
 use mathlib.Core.Logic.{_≢_, ⊎-elim}
@@ -9,36 +9,26 @@ use borrow.Author.Tests.{eq-eqb, ne-eqb, eqb-false}
 use lib.Dec.{eqb}
 use lib.ListN.{length}
 use Rattle.steps.specs.Lists.{filter}
-use Rattle.steps.specs.State.{has, of, keep as keeping}
-use Rattle.links.specs.Path.{pick, count, keep}
+use Rattle.steps.specs.State.{has, keep as keeping}
+use Rattle.links.specs.Path.{pick, count, keep, strip}
 use Rattle.links.specs.Places.{Places, order}
 use Rattle.links.specs.Links.{recordOf, recordIn}
-use Rattle.links.proofs.Paths.{same-or-not, count-same, count-hit, count-other, keep-same, count-keep}
-use Rattle.index.specs.Table.{Holds}
+use Rattle.links.proofs.Paths.{same-or-not, count-same, count-hit, count-other, keep-all, keep-same, count-keep}
+use Rattle.links.proofs.Strips.{strip-keep}
 use Rattle.multimap.specs.Map.{at, keyAt, pairAt, pairs, members, roundsOf, membersOf, linksOf, stateOf}
 use Rattle.multimap.specs.WellLinked.{WellLinked}
 use Rattle.multimap.specs.declared.ListOrderedMultimap.{ListOrderedMultimap}
-use Rattle.multimap.proofs.Stores.{count-mem}
-use Rattle.changing.specs.Strike.{strip, Struck}
+use Rattle.multimap.proofs.Records.{filter-map, same-number}
+use Rattle.changing.specs.Strike.{Struck}
 use Rattle.changing.specs.Sweep.{Sound, Swept}
-use Rattle.changing.proofs.Lists.{filter-map, strip-keep}
-
--- two places of members have one number where they are one place
-pub same-number : (t keys ks : List ℕ) → Holds t keys ks → (j k : ℕ) → 0 < count j ks → 0 < count k ks → eqb (at keys k) (at keys j) ≡ eqb j k
-same-number t keys ks h j k i l =
-    ⊎-elim (λ (e : j ≡ k). eq-eqb _ _ (ap (at keys) (sym e)) ∙ sym (eq-eqb _ _ e))
-    (λ (e : j ≢ k). ne-eqb _ _ (λ u. e (h .distinct _ _ (count-mem j ks i) (count-mem k ks l) (sym u))) ∙ sym (ne-eqb _ _ e)) (same-or-not j k)
 
 -- a member has a pair exactly where its record has a place
 module _ (m : ListOrderedMultimap) (g : WellLinked m) (k : ℕ) (i : 0 < count k (order (membersOf m))) where
-  pub same-member : (q : ℕ) → 0 < count (keyAt (m .«key_index») q) (order (membersOf m)) → of (at (m .keys) k) (pairAt m q) ≡ eqb (keyAt (m .«key_index») q) k
-  same-member q j = same-number (m .index) (m .keys) (order (membersOf m)) (g .index) (keyAt (m .«key_index») q) k j i
-
   pub has-size : (vs : List ℕ) → ((q : ℕ) → 0 < count q vs → 0 < count (keyAt (m .«key_index») q) (order (membersOf m)))
       → has (at (m .keys) k) (map (pairAt m) vs) ≡ not (eqb (length (recordOf (keyAt (m .«key_index»)) k vs)) 0)
   has-size [] h = sym (ap not (eq-eqb 0 0 refl))
   has-size (v ∷ vs) h =
-      ap (λ (b : Bool). b || has (at (m .keys) k) (map (pairAt m) vs)) (same-member v (h v (rw count-same (omega arith))))
+      ap (λ (b : Bool). b || has (at (m .keys) k) (map (pairAt m) vs)) (same-number (m .index) (m .keys) (order (membersOf m)) (g .index) (keyAt (m .«key_index») v) k (h v (rw count-same (omega arith))) i)
       ∙ go (eqb (keyAt (m .«key_index») v) k) (has-size vs (λ q j. h q (omega arith)))
     where
       go : (b : Bool) → has (at (m .keys) k) (map (pairAt m) vs) ≡ not (eqb (length (recordOf (keyAt (m .«key_index»)) k vs)) 0)
@@ -59,26 +49,26 @@ module _ (m : ListOrderedMultimap) (g : WellLinked m) (ws : List ℕ) (o : ListO
       }
 
   -- the places left are places of the rounds
-  pub still : (q : ℕ) → 0 < count q (order (roundsOf o)) → 0 < count (keyAt (m .«key_index») q) (order (membersOf m))
-  still q i =
+  pub member-still : (q : ℕ) → 0 < count q (order (roundsOf o)) → 0 < count (keyAt (m .«key_index») q) (order (membersOf m))
+  member-still q i =
       subst (λ (l : List ℕ). 0 < count (keyAt (m .«key_index») q) l) same-members
       (rw (ap (λ (l : List _). keyAt l q) (s .kept .key-index)) at (s .chained .keys q i))
 
   -- what is left of the members: those with a round
-  abbrev busy : ℕ → Bool
-  busy k = not (eqb (at (o .length) k) 0)
+  abbrev with-round : ℕ → Bool
+  with-round k = not (eqb (at (o .length) k) 0)
 
-  pub size-o : (k : ℕ) → 0 < count k (order (membersOf m)) → at (o .length) k ≡ length (recordOf (keyAt (m .«key_index»)) k (order (roundsOf o)))
-  size-o k i =
+  pub length-now : (k : ℕ) → 0 < count k (order (membersOf m)) → at (o .length) k ≡ length (recordOf (keyAt (m .«key_index»)) k (order (roundsOf o)))
+  length-now k i =
       s .chained .size k (subst (λ (l : List ℕ). 0 < count k l) (sym same-members) i)
       ∙ ap (λ (l : List _). length (recordOf (keyAt l) k (order (roundsOf o)))) (s .kept .key-index)
 
-  module _ (us : List ℕ) (r : ListOrderedMultimap) (w : Swept o us r) (cover : strip us (order (membersOf o)) ≡ keep busy (order (membersOf o))) where
-    left : order (membersOf r) ≡ keep busy (order (membersOf o))
-    left = w .left ∙ cover
+  module _ (us : List ℕ) (r : ListOrderedMultimap) (w : Swept o us r) (leavers : strip us (order (membersOf o)) ≡ keep with-round (order (membersOf o))) where
+    left : order (membersOf r) ≡ keep with-round (order (membersOf o))
+    left = w .left ∙ leavers
 
-    pub settled-well : WellLinked r
-    settled-well =
+    pub left-linked : WellLinked r
+    left-linked =
         record {
           chained = w .sound .chained;
           some =
@@ -89,8 +79,8 @@ module _ (m : ListOrderedMultimap) (g : WellLinked m) (ws : List ℕ) (o : ListO
           taken = rw (w .kept .taken, s .kept .taken) (g .taken);
         }
       where
-        go : (k : ℕ) (b : Bool) → eqb (at (o .length) k) 0 ≡ b → 0 < count k (keep busy (order (membersOf o))) → 0 < at (o .length) k
-        go k true e i = absurd (omega (arith, i, count-keep busy k (order (membersOf o)), ap (λ (b : Bool). pick (not b) (count k (order (membersOf o))) 0) e))
+        go : (k : ℕ) (b : Bool) → eqb (at (o .length) k) 0 ≡ b → 0 < count k (keep with-round (order (membersOf o))) → 0 < at (o .length) k
+        go k true e i = absurd (omega (arith, i, count-keep with-round k (order (membersOf o)), ap (λ (b : Bool). pick (not b) (count k (order (membersOf o))) 0) e))
         go k false e i = let n = eqb-false (at (o .length) k) 0 e in omega arith
 
     pairs-now : pairs r ≡ map (pairAt m) (order (roundsOf o))
@@ -101,29 +91,25 @@ module _ (m : ListOrderedMultimap) (g : WellLinked m) (ws : List ℕ) (o : ListO
     members-now : members r ≡ filter (λ n. has n (map (pairAt m) (order (roundsOf o)))) (members m)
     members-now =
         ap (λ (l : List ℕ). map (at l) (order (membersOf r))) (w .kept .keys ∙ s .kept .keys)
-        ∙ ap (map (at (m .keys))) (left ∙ ap (keep busy) same-members
-        ∙ keep-same busy (λ k. has (at (m .keys) k) (map (pairAt m) (order (roundsOf o)))) (order (membersOf m))
-        (λ k i. ap (λ (n : ℕ). not (eqb n 0)) (size-o k i) ∙ sym (has-size m g k i (order (roundsOf o)) still)))
+        ∙ ap (map (at (m .keys))) (left ∙ ap (keep with-round) same-members
+        ∙ keep-same with-round (λ k. has (at (m .keys) k) (map (pairAt m) (order (roundsOf o)))) (order (membersOf m))
+        (λ k i. ap (λ (n : ℕ). not (eqb n 0)) (length-now k i) ∙ sym (has-size m g k i (order (roundsOf o)) member-still)))
         ∙ sym (filter-map (λ n. has n (map (pairAt m) (order (roundsOf o)))) (at (m .keys)) (order (membersOf m)))
 
-    pub settled-state : stateOf r ≡ keeping (map (pairAt m) (order (roundsOf o))) (stateOf m)
-    settled-state = rw (pairs-now, members-now, w .kept .taken ∙ s .kept .taken)
+    pub left-state : stateOf r ≡ keeping (map (pairAt m) (order (roundsOf o))) (stateOf m)
+    left-state = rw (pairs-now, members-now, w .kept .taken ∙ s .kept .taken)
 
 -- every member of a well-linked map has a pair
 pub all-have : (m : ListOrderedMultimap) → WellLinked m → filter (λ n. has n (pairs m)) (members m) ≡ members m
 all-have m g =
     filter-map (λ n. has n (pairs m)) (at (m .keys)) (order (membersOf m))
-    ∙ ap (map (at (m .keys))) (all (order (membersOf m)) (λ k i. has-size m g k i (order (roundsOf m)) (g .chained .keys)
+    ∙ ap (map (at (m .keys))) (keep-all (λ k. has (at (m .keys) k) (pairs m)) (order (membersOf m)) (λ k i. has-size m g k i (order (roundsOf m)) (g .chained .keys)
     ∙ ap not (ne-eqb (length (recordIn (linksOf m) k)) 0 (λ e. omega (arith, g .some k i, e)))))
-  where
-    all : (xs : List ℕ) → ((k : ℕ) → 0 < count k xs → has (at (m .keys) k) (pairs m) ≡ true) → keep (λ k. has (at (m .keys) k) (pairs m)) xs ≡ xs
-    all [] h = refl
-    all (x ∷ xs) h = rw (h x (rw count-same (omega arith))) (ap (λ (l : List ℕ). x ∷ l) (all xs (λ k i. h k (omega arith))))
 
--- of the members only k may be left without a round: it is the one that leaves
-pub cover-one : (size : ℕ → ℕ) (k : ℕ) (ks : List ℕ) → ((j : ℕ) → 0 < count j ks → j ≢ k → size j ≢ 0)
+-- where only the member place k may be without a round, only it may leave
+pub leaves-one : (size : ℕ → ℕ) (k : ℕ) (ks : List ℕ) → ((j : ℕ) → 0 < count j ks → j ≢ k → size j ≢ 0)
     → strip (keep (λ j. eqb (size j) 0) (k ∷ [])) ks ≡ keep (λ j. not (eqb (size j) 0)) ks
-cover-one size k ks h =
+leaves-one size k ks h =
     strip-keep (keep (λ j. eqb (size j) 0) (k ∷ [])) ks
     ∙ keep-same (λ j. eqb (count j (keep (λ j. eqb (size j) 0) (k ∷ []))) 0) (λ j. not (eqb (size j) 0)) ks (λ j i. go j i (eqb (size k) 0) refl)
   where

@@ -7,8 +7,7 @@ use native.Mathlib.Omega.{arith}
 use native.Mathlib.Numerals.{add-one}
 use lib.Dec.{eqb}
 use lib.ListN.{length, getD, set, drop, length-set, drop-of-length-le}
-use lib.Seq.{drop-cons, append-snoc}
-use Rattle.links.specs.Path.{pick, count, keep, without, Path}
+use Rattle.links.specs.Path.{pick, count, keep, without, strip, Path}
 use Rattle.links.specs.Places.{order}
 use Rattle.links.specs.Links.{Links, base, Chained, struck}
 use Rattle.links.proofs.Paths.{count-in, count-append, count-same, Once, without-split, keep-swap, path-split, path-start}
@@ -17,8 +16,8 @@ use Rattle.links.proofs.Chains.{in-record, record-once, own-member, cells-once,
 use Rattle.multimap.specs.Map.{at, keyAt, valueAt, roundsOf, membersOf, linksOf}
 use Rattle.multimap.specs.declared.ListOrderedMultimap.{ListOrderedMultimap}
 use Rattle.multimap.proofs.Stores.{at-set, value-set, value-set₂, Sized, places-eq, links-eq}
-use Rattle.changing.proofs.Lists.{first-of}
-use Rattle.changing.specs.Strike.{course, onward, visited, chosen, strip, Stretch, RoundsOnly, Struck}
+use Rattle.changing.proofs.Stretches.{first-of, at-next, split-next, split-past}
+use Rattle.changing.specs.Strike.{course, onward, visited, chosen, Stretch, RoundsOnly, Struck}
 
 -- ---- either course
 
@@ -172,6 +171,10 @@ pub record Turned (b : Bool) (m : ListOrderedMultimap) (start turns : ℕ) (h : 
   pub here : i < turns → q ≡ getD (drop i (visited b m start turns) ++ h .back) 0 (root b (linksOf o) (keyAt (m .«key_index») start))
   pub rest : strip (chosen marks (visited b m start turns)) (order (roundsOf m)) ≡ strip (chosen (drop i marks) (drop i (visited b m start turns))) (order (roundsOf o))
 
+pub chosen-all : (vs : List ℕ) → chosen [] vs ≡ vs
+chosen-all [] = refl
+chosen-all (v ∷ vs) = ap (λ (l : List ℕ). v ∷ l) (chosen-all vs)
+
 chosen-end : (bs : List ℕ) → chosen bs [] ≡ []
 chosen-end [] = refl
 chosen-end (b ∷ bs) = refl
@@ -220,17 +223,14 @@ module _ (b : Bool) (m : ListOrderedMultimap) (start turns : ℕ) (h : Stretch b
       abbrev ds : List ℕ
       ds = drop (suc i) vs
 
-      ahead : drop i vs ≡ getD vs i 0 ∷ ds
-      ahead = drop-cons vs i 0 (omega (arith, long))
+      more : i < length vs
+      more = omega (arith, long)
 
-      q-is : q ≡ getD vs i 0
-      q-is = t .here e ∙ rw ahead
-
-      ahead-q : drop i vs ≡ q ∷ ds
-      ahead-q = ahead ∙ ap (λ (y : ℕ). y ∷ ds) (sym q-is)
+      ahead : drop i vs ≡ q ∷ ds
+      ahead = at-next vs (h .back) i q _ more (t .here e)
 
       split : course b (linksOf o) k ≡ t .front ++ q ∷ (ds ++ h .back)
-      split = t .whole ∙ ap (λ (l : List ℕ). t .front ++ (l ++ h .back)) ahead-q
+      split = split-next vs (h .back) i q _ more (t .here e) (t .front) (course b (linksOf o) k) (t .whole)
 
       pub q-in : 0 < count q (order (roundsOf o))
       q-in = on-course (linksOf o) (t .chained) k b q (x-on (linksOf o) (t .chained) k b (t .front) q (ds ++ h .back) split)
@@ -240,7 +240,7 @@ module _ (b : Bool) (m : ListOrderedMultimap) (start turns : ℕ) (h : Stretch b
 
       now : strip (chosen (drop i marks) (drop i vs)) (order (roundsOf o))
           ≡ strip (pick (eqb (getD marks i 0) 0) (q ∷ chosen (drop (suc i) marks) ds) (chosen (drop (suc i) marks) ds)) (order (roundsOf o))
-      now = ap (λ (l : List ℕ). strip (chosen (drop i marks) l) (order (roundsOf o))) ahead-q ∙ ap (λ (l : List ℕ). strip l (order (roundsOf o))) (chosen-one marks i q ds)
+      now = ap (λ (l : List ℕ). strip (chosen (drop i marks) l) (order (roundsOf o))) ahead ∙ ap (λ (l : List ℕ). strip l (order (roundsOf o))) (chosen-one marks i q ds)
 
       choice : {z : Bool} → eqb (getD marks i 0) 0 ≡ z
           → strip (pick (eqb (getD marks i 0) 0) (q ∷ chosen (drop (suc i) marks) ds) (chosen (drop (suc i) marks) ds)) (order (roundsOf o))
@@ -256,7 +256,7 @@ module _ (b : Bool) (m : ListOrderedMultimap) (start turns : ℕ) (h : Stretch b
             chained = t .chained;
             kept = t .kept;
             front = t .front ++ q ∷ [];
-            whole = rw (add-one i) (split ∙ sym (append-snoc (t .front) q (ds ++ h .back)));
+            whole = split-past vs (h .back) i q _ more (t .here e) (t .front) (course b (linksOf o) k) (t .whole);
             here = λ z. rw (add-one i) (ey ∙ next-q);
             rest = rw (add-one i) (t .rest ∙ now ∙ choice f);
           }
