@@ -18,7 +18,7 @@ use Rattle.multimap.specs.WellLinked.{WellLinked, linked}
 use Rattle.multimap.specs.declared.ListOrderedMultimap.{ListOrderedMultimap}
 use Rattle.multimap.proofs.States.{Unknown, is-full, not-full, is-crowded, not-crowded}
 use Rattle.multimap.proofs.Records.{Member, first-round}
-use Rattle.changing.specs.Adding.{Ready, AddedTo, Posted}
+use Rattle.changing.specs.Adding.{AddedTo, Posted}
 use Rattle.changing.specs.Strike.{Emptied}
 
 -- ---- the steps, case by case
@@ -64,10 +64,6 @@ module _ (k v : ℕ) (s : State) where
     step-all-new p f c = rw (p, f, c, p)
 
 -- ---- the map
-
--- a member whose record was emptied is ready for a round
-pub ready-emptied : (m : ListOrderedMultimap) (x : ℕ) (o : ListOrderedMultimap) → Emptied m x o → Ready o x
-ready-emptied m x o d = record { chained = d .chained; here = d .member; others = d .some; index = d .index; room = d .room }
 
 module _ (k v : ℕ) (m : ListOrderedMultimap) (g : WellLinked m) where
   -- the member place x has the number k

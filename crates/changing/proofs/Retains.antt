@@ -89,7 +89,7 @@ module _ (g : ℕ → Pair) where
           rw (ne-eqb b 0 e, eq-eqb (count v (chosen bs vs)) 0 (omega (arith, count-chosen v bs vs, nowhere)), is-one b (head-true (eqb 0 b || eqb 1 b) (proper bs) p) e)
           (ap (λ (l : List Pair). g v ∷ l) ih)
 
-  pub kept-map : (ms vs : List ℕ) → Once vs → length ms ≡ length vs → proper ms ≡ true → map g (strip (chosen ms vs) vs) ≡ kept ms (map g vs)
+  kept-map : (ms vs : List ℕ) → Once vs → length ms ≡ length vs → proper ms ≡ true → map g (strip (chosen ms vs) vs) ≡ kept ms (map g vs)
   kept-map ms vs o l p = ap (map g) (strip-keep (chosen ms vs) vs) ∙ thinned ms vs o l p
 
 -- ---- the step

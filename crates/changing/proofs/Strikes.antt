@@ -31,7 +31,7 @@ root false c k = c .rounds .root
 
 module _ (c : Links) (g : Chained c) (k : ℕ) where
   -- a place of a course is one of a round, and has its member place
-  pub on-course : (b : Bool) (x : ℕ) → 0 < count x (course b c k) → 0 < count x (order (c .rounds))
+  on-course : (b : Bool) (x : ℕ) → 0 < count x (course b c k) → 0 < count x (order (c .rounds))
   on-course true x i = omega (arith, record-once (c .key) k x (order (c .rounds)))
   on-course false x i = i
 
@@ -49,15 +49,15 @@ module _ (c : Links) (g : Chained c) (k : ℕ) where
   course-struck false x i = struck-order c g x i
 
   module _ (b : Bool) (us : List ℕ) (x : ℕ) (ds : List ℕ) (e : course b c k ≡ us ++ x ∷ ds) where
-    pub x-on : 0 < count x (course b c k)
+    x-on : 0 < count x (course b c k)
     x-on = omega (arith, ap (count x) e, count-append x us (x ∷ ds), count-same x ds)
 
-    pub onward-is : onward b c x ≡ getD ds 0 (root b c k)
+    onward-is : onward b c x ≡ getD ds 0 (root b c k)
     onward-is =
         let p = subst (λ (l : List ℕ). Path (onward b c) (backward b c) (root b c k) l (root b c k)) e (course-path b x x-on) in
         path-start (onward b c) (backward b c) x ds (root b c k) (path-split (onward b c) (backward b c) (root b c k) us x ds (root b c k) p .1)
 
-    pub course-left : course b (struck c x) k ≡ us ++ ds
+    course-left : course b (struck c x) k ≡ us ++ ds
     course-left =
         course-struck b x (on-course b x x-on) ∙ ap (without x) e
         ∙ without-split x us ds (λ q. omega (arith, course-once b q, ap (count q) e))

@@ -99,7 +99,7 @@ module _ (o : ListOrderedMultimap) (s : Sized o) (g : Sound o) (x : ℕ) (i : 0 
         go [] e = refl
         go (y ∷ l) e = absurd (omega arith)
 
-    pub left-now : order (membersOf (r closed)) ≡ without x (order (membersOf o))
+    left-now : order (membersOf (r closed)) ≡ without x (order (membersOf o))
     left-now = ap (λ (c : Links). order (c .members)) links ∙ parted-order (linksOf o) (g .chained) x i empty
 
     holds : Holds closed (o .keys) (order (membersOf a))
@@ -110,7 +110,7 @@ module _ (o : ListOrderedMultimap) (s : Sized o) (g : Sound o) (x : ℕ) (i : 0 
         (λ j m. let w = of-without x j ks (mem-count j (without x ks) (subst (λ (l : List ℕ). List·Memᴰ j l) left-now m)) in mem-without x ks j (count-mem j ks (w .0)) (w .1))
         shut
 
-    pub sound-now : Sound (r closed)
+    sound-now : Sound (r closed)
     sound-now = record { chained = subst Chained (sym links) (parted-chained (linksOf o) (g .chained) x i empty); index = holds }
 
     pub sized-now : Sized (r closed)

@@ -42,7 +42,7 @@ stands q (x ∷ xs) h =
 
 -- ---- the places from 0 on
 
-pub from-more : (s n : ℕ) → walk suc s (suc n) ≡ walk suc s n ++ (s + n) ∷ []
+from-more : (s n : ℕ) → walk suc s (suc n) ≡ walk suc s n ++ (s + n) ∷ []
 from-more s zero = let e : s ≡ s + 0 = omega arith in ap (λ (y : ℕ). y ∷ []) e
 from-more s (suc n) =
     let e : suc s + n ≡ s + suc n = omega arith in

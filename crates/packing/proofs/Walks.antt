@@ -39,7 +39,7 @@ module _ (l : Places) (g : Linked l) where
 
 -- where the places from 0 on are in use and no other ever was, the next one is taken
 module _ (l : Places) (i : ℕ) (e : l .len ≡ i) (f : l .fresh ≡ i) where
-  pub vacancy-up : vacancy l ≡ i
+  vacancy-up : vacancy l ≡ i
   vacancy-up = rw (eq-eqb (l .len) (l .fresh) (e ∙ sym f)) f
 
   pub pushed-up : pushed l
