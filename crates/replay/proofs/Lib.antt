@@ -1,0 +1,5 @@
+pub mod Tapes
+pub mod Running
+pub mod Answered
+pub mod Arms
+pub mod Places

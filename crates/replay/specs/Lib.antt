@@ -1,0 +1,4 @@
+pub mod Tape
+pub mod Answers
+pub mod Played
+pub mod Place

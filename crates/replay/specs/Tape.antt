@@ -1,0 +1,135 @@
+-- A list of calls held in slices, and what a run of it leaves in them, for any kind of map. Six numbers for each call: its number in callOf's
+-- table, its arguments k and v, and the lengths of its out slice, its second out slice and its marks. The out slices, the second ones and the
+-- marks stand one after the other, each kind in a slice of its own. An answer is four numbers.
+use mathlib.Core.Path.{_≡_}
+use mathlib.Core.Bool.{Bool, cond, _&&_, _||_}
+use mathlib.Core.List.{List, [], _∷_, _++_}
+use Prim.Native.Nat.{ℕ, _+_, _*_, _-_, _≤_}
+use lib.Dec.{eqb, leb, ltb}
+use lib.ListN.{length, take, drop, getD}
+use Rattle.steps.specs.Lists.{any}
+use Rattle.steps.specs.Call.{Call, Answer, Outcome, refused, none, done, round, count, present, popped, occupied, vacant}
+use Rattle.steps.specs.Call.{append, insert, insert-all, remove, remove-all, entry, occupied-append, occupied-insert, occupied-remove-entry, vacant-insert, pop-front, pop-back, retain, pack-to, clear, get, get-all, entry-len, contains-key, keys, keys-len, values-len, iter, taken}
+use Rattle.steps.specs.Step.{over}
+use Rattle.steps.specs.Trace.{Kind, Does, Trace}
+
+-- The calls by number, from 0.
+abbrev pub callOf : ℕ → ℕ → ℕ → List ℕ → List ℕ → List ℕ → Call
+callOf op k v out out2 marks =
+    getD
+    (append k v
+    ∷ insert k v
+    ∷ insert-all k v out
+    ∷ remove k
+    ∷ remove-all k out
+    ∷ entry k
+    ∷ occupied-append k v
+    ∷ occupied-insert k v
+    ∷ occupied-remove-entry k
+    ∷ vacant-insert k v
+    ∷ pop-front
+    ∷ pop-back
+    ∷ retain marks
+    ∷ pack-to k v
+    ∷ clear
+    ∷ get k
+    ∷ get-all k out
+    ∷ entry-len k
+    ∷ contains-key k
+    ∷ keys out
+    ∷ keys-len
+    ∷ values-len
+    ∷ iter out out2
+    ∷ taken
+    ∷ [])
+    op taken
+
+-- Has the call an out slice? Only iter has a second, and only retain has marks.
+abbrev pub lends : ℕ → Bool
+lends op = any (eqb op) (2 ∷ 4 ∷ 16 ∷ 19 ∷ 22 ∷ [])
+
+-- Is there such a call, with slices and marks only where it has them?
+abbrev pub known : ℕ → ℕ → ℕ → ℕ → Bool
+known op n n2 n3 = ltb op 24 && ((lends op || eqb n 0) && ((eqb op 22 || eqb n2 0) && (eqb op 12 || eqb n3 0)))
+
+-- Are its slices and marks all there, and room for its answer?
+unfoldable pub fits : ℕ → ℕ → ℕ → ℕ → ℕ → ℕ → ℕ → ℕ → Bool
+fits op n n2 n3 room room2 room3 space = known op n n2 n3 && ((leb n room && leb n2 room2) && (leb n3 room3 && leb 4 space))
+
+abbrev pub bit : Bool → ℕ
+bit b = cond b 1 0
+
+abbrev pub words : ℕ → ℕ → ℕ → ℕ → List ℕ
+words a b c d = a ∷ b ∷ c ∷ d ∷ []
+
+-- The four numbers of an answer.
+abbrev pub coded : Answer → List ℕ
+coded (refused n) = words 0 n 0 0
+coded none = words 1 0 0 0
+coded done = words 2 0 0 0
+coded (round v) = words 3 v 0 0
+coded (count n) = words 4 n 0 0
+coded (present b) = words 5 (bit b) 0 0
+coded (popped k v b) = words 6 k v (bit b)
+coded (occupied n) = words 7 n 0 0
+coded (vacant k) = words 8 k 0 0
+
+-- The calls that the slices hold, up to the end or to the first that does not fit; `space` numbers may be written as answers.
+unfoldable pub decode : List ℕ → List ℕ → List ℕ → List ℕ → ℕ → List Call
+decode [] outs outs2 marks space = []
+decode (a ∷ []) outs outs2 marks space = []
+decode (a ∷ b ∷ []) outs outs2 marks space = []
+decode (a ∷ b ∷ c ∷ []) outs outs2 marks space = []
+decode (a ∷ b ∷ c ∷ d ∷ []) outs outs2 marks space = []
+decode (a ∷ b ∷ c ∷ d ∷ e ∷ []) outs outs2 marks space = []
+decode (op ∷ k ∷ v ∷ n ∷ n2 ∷ n3 ∷ calls) outs outs2 marks space =
+    cond (fits op n n2 n3 (length outs) (length outs2) (length marks) space)
+    (callOf op k v (take n outs) (take n2 outs2) (take n3 marks) ∷ decode calls (drop n outs) (drop n2 outs2) (drop n3 marks) (space - 4))
+    []
+
+-- What a list of outcomes leaves in the out slices, the second ones and the answers.
+abbrev pub outsOf : List Outcome → List ℕ
+outsOf [] = []
+outsOf (o ∷ os) = o .slices .out ++ outsOf os
+
+abbrev pub outs2Of : List Outcome → List ℕ
+outs2Of [] = []
+outs2Of (o ∷ os) = o .slices .out2 ++ outs2Of os
+
+abbrev pub answersOf : List Outcome → List ℕ
+answersOf [] = []
+answersOf (o ∷ os) = coded (o .answer) ++ answersOf os
+
+module _ {Map : Type 0} (M : Kind Map) where
+  -- What one call leaves: the map, its slices and its answer's numbers.
+  pub record Turned (c : Call) (m m′ : Map) (out out2 ans : List ℕ) : Type 0 where
+    pub outcome : Outcome
+    pub does : Does M c m outcome m′
+    pub out-is : out ≡ outcome .slices .out
+    pub out2-is : out2 ≡ outcome .slices .out2
+    pub ans-is : ans ≡ coded (outcome .answer)
+
+  -- All calls that the slices hold were run, from m to m′, and they are n. What stands past that which the outcomes leave is kept.
+  pub record Ran (calls outs outs2 marks ans : List ℕ) (m : Map) (outs′ outs2′ ans′ : List ℕ) (m′ : Map) (n : ℕ) : Type 0 where
+    pub outcomes : List Outcome
+    pub trace : Trace M (decode calls outs outs2 marks (length ans)) m outcomes m′
+    pub outs-are : outs′ ≡ over (outsOf outcomes) outs
+    pub outs2-are : outs2′ ≡ over (outs2Of outcomes) outs2
+    pub ans-are : ans′ ≡ over (answersOf outcomes) ans
+    pub number : n ≡ length (decode calls outs outs2 marks (length ans))
+
+  -- A run that began with m₀ and these slices stands with m and those: i numbers of the calls, at, at2 and at3 of the slices and marks and a of the
+  -- answers are passed, and ran calls. Whatever a run of the rest comes to stands behind what is done.
+  pub record Reached (calls outs₀ outs2₀ marks ans₀ : List ℕ) (m₀ : Map) (outs outs2 ans : List ℕ) (m : Map) (i at at2 at3 a ran : ℕ) : Type 0 where
+    pub i-in : i ≤ length calls
+    pub at-in : at ≤ length outs
+    pub at2-in : at2 ≤ length outs2
+    pub at3-in : at3 ≤ length marks
+    pub a-in : a ≤ length ans
+    pub ran-is : 4 * ran ≡ a
+    pub outs-len : length outs ≡ length outs₀
+    pub outs2-len : length outs2 ≡ length outs2₀
+    pub ans-len : length ans ≡ length ans₀
+    pub linked : M .Linked m
+    pub left : (o o2 b : List ℕ) (m′ : Map) (n : ℕ) → Ran (drop i calls) (drop at outs) (drop at2 outs2) (drop at3 marks) (drop a ans) m o o2 b m′ n
+        → Ran calls outs₀ outs2₀ marks ans₀ m₀ (take at outs ++ o) (take at2 outs2 ++ o2) (take a ans ++ b) m′ (ran + n)
