@@ -205,10 +205,9 @@ fn add_reads(model: &Model, named: u64, all: bool, list: &mut Vec<Call>) {
 // Where a port leaves a tape otherwise than the model does.
 pub fn tape_difference(port: &dyn Port, tape: &Tape) -> Option<String> {
     let (mut found, mut due) = (tape.clone(), tape.clone());
-    port.replay(&mut found);
-    ModelPort.replay(&mut due);
+    let (ran, calls) = (port.replay(&mut found), ModelPort.replay(&mut due));
     if found == due {
-        return None;
+        return (ran != calls).then(|| format!("the port says that it ran {} calls, not {}", ran, calls));
     }
     let (mut out, mut out2) = (0, 0);
     for (at, call) in tape.decode().iter().enumerate() {

@@ -101,17 +101,18 @@ pub fn answer_of(words: &[u64]) -> Option<Answer> {
     Some(answer)
 }
 
-// What runs a tape from an empty map: it fills the tape's slices and answers, and leaves the rest as it is.
+// What runs a tape from an empty map: it fills the tape's slices and answers, leaves the rest as it is, and says how many
+// calls it ran.
 pub trait Port {
-    fn replay(&self, tape: &mut Tape);
+    fn replay(&self, tape: &mut Tape) -> u64;
 }
 
 // The model as a port.
 pub struct ModelPort;
 
 impl Port for ModelPort {
-    fn replay(&self, tape: &mut Tape) {
-        replay_with(tape, &mut Model::default(), Model::step);
+    fn replay(&self, tape: &mut Tape) -> u64 {
+        replay_with(tape, &mut Model::default(), Model::step)
     }
 }
 
@@ -120,9 +121,10 @@ pub fn replay_with<State>(
     tape: &mut Tape,
     state: &mut State,
     step: impl Fn(&mut State, &Call, &mut [u64], &mut [u64]) -> Answer,
-) {
+) -> u64 {
+    let list = tape.decode();
     let (mut out, mut out2) = (0, 0);
-    for (at, call) in tape.decode().iter().enumerate() {
+    for (at, call) in list.iter().enumerate() {
         let lent = &mut tape.outs[out..out + call.out];
         let lent2 = &mut tape.outs2[out2..out2 + call.out2];
         let answer = step(state, call, lent, lent2);
@@ -130,6 +132,7 @@ pub fn replay_with<State>(
         out += call.out;
         out2 += call.out2;
     }
+    list.len() as u64
 }
 
 // The port itself, where its static library is linked (--cfg port).
@@ -157,13 +160,13 @@ mod library {
             marks_len: usize,
             answers: *mut u64,
             answers_len: usize,
-        );
+        ) -> u64;
     }
 
     pub struct Library;
 
     impl Port for Library {
-        fn replay(&self, tape: &mut Tape) {
+        fn replay(&self, tape: &mut Tape) -> u64 {
             // Each pointer and length are those of one vector, and the five vectors do not overlap.
             unsafe {
                 replay(
@@ -177,7 +180,7 @@ mod library {
                     tape.marks.len(),
                     tape.answers.as_mut_ptr(),
                     tape.answers.len(),
-                );
+                )
             }
         }
     }

@@ -105,7 +105,7 @@ fn tapes_decode() -> bool {
     let list = sample();
     let mut tape = Tape::of(&list);
     let same = tape.decode() == list;
-    ModelPort.replay(&mut tape);
+    let ran = ModelPort.replay(&mut tape);
     let due = [
         Answer::Present(false),
         Answer::Present(false),
@@ -118,7 +118,7 @@ fn tapes_decode() -> bool {
         Answer::Count(4),
     ];
     let untouched = Tape::of(&list);
-    same && tape.answers == due.map(words).concat()
+    same && ran == due.len() as u64 && tape.answers == due.map(words).concat()
         && due.iter().all(|&answer| answer_of(&words(answer)) == Some(answer))
         && tape.outs[..5] == [10, 11, untouched.outs[2], 9, 7]
         && tape.outs[5..] == untouched.outs[5..]
@@ -286,8 +286,8 @@ const WRONG: [(&str, Step); 10] = [
 struct WrongPort(Step);
 
 impl Port for WrongPort {
-    fn replay(&self, tape: &mut Tape) {
-        replay_with(tape, &mut Model::default(), self.0);
+    fn replay(&self, tape: &mut Tape) -> u64 {
+        replay_with(tape, &mut Model::default(), self.0)
     }
 }
 
@@ -327,8 +327,8 @@ impl Indexed {
 }
 
 impl Port for GapPort {
-    fn replay(&self, tape: &mut Tape) {
-        replay_with(tape, &mut Indexed { model: Model::default(), index: vec![None; 512] }, Indexed::step);
+    fn replay(&self, tape: &mut Tape) -> u64 {
+        replay_with(tape, &mut Indexed { model: Model::default(), index: vec![None; 512] }, Indexed::step)
     }
 }
 

@@ -3,3 +3,4 @@ pub mod Running
 pub mod Answered
 pub mod Arms
 pub mod Places
+pub mod Encode

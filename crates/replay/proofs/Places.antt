@@ -4,12 +4,12 @@ use mathlib.Core.Bool.{Bool, true, false, cond, false≢true, true≢false}
 use mathlib.Core.List.{List, []}
 use Prim.Native.Nat.{ℕ, suc, _+_, _-_, _≤_, _<_}
 use native.Mathlib.Omega.{arith}
-use lib.ListN.{length, take, drop, getD, length-drop}
+use lib.ListN.{length, take, drop, length-drop}
 use lib.Seq.{length-take-le}
 use borrow.Rule.Slice.PartMut.{putMid}
 use Rattle.multimap.specs.WellLinked.{WellLinked, linked}
 use Rattle.multimap.specs.declared.ListOrderedMultimap.{ListOrderedMultimap}
-use Rattle.replay.specs.Tape.{callOf, Turned, Reached}
+use Rattle.replay.specs.Tape.{callOf, Turned}
 use Rattle.replay.specs.Place.{headAt, fitsHead, Ready, stopped, Past, Within, rest, At, Advanced}
 use Rattle.replay.specs.declared.Head.{Head}
 use Rattle.replay.specs.declared.Place.{Place}

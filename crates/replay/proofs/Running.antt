@@ -1,7 +1,7 @@
 -- The invariant of a loop that runs a list of calls in slices, over any kind of map: whatever the rest comes to stands behind what is done.
 -- Assumes nothing.
 use mathlib.Core.Path.{_≡_, refl, ap, sym, subst, subst₃, _∙_}
-use mathlib.Core.Bool.{Bool, true, false}
+use mathlib.Core.Bool.{true, false}
 use mathlib.Core.List.{List, [], _∷_, _++_, append-assoc}
 use Prim.Native.Nat.{ℕ, suc, _+_, _-_, _≤_, _<_}
 use native.Mathlib.Nat.{add-zero, zero-add}
@@ -10,9 +10,8 @@ use native.Mathlib.Omega.{arith}
 use lib.ListN.{length, take, drop, getD, take-append-drop, length-append, length-drop}
 use lib.Seq.{drop-cons, drop-drop, take-at, drop-at, length-take-le}
 use borrow.Rule.Slice.PartMut.{putMid, same-len-mid}
-use Rattle.steps.specs.Call.{Call, Outcome}
-use Rattle.steps.specs.Trace.{Kind, Does}
-use Rattle.replay.specs.Tape.{callOf, fits, coded, decode, Turned, Ran, Reached}
+use Rattle.steps.specs.Trace.{Kind}
+use Rattle.replay.specs.Tape.{callOf, fits, decode, Turned, Ran, Reached}
 use Rattle.replay.proofs.Tapes.{decode-short, decode-not, Fits, fits-says, coded-length, ran-ended, ran-call}
 
 -- a part of xs from a on, of k elements, with ys put there

@@ -1,6 +1,6 @@
 -- A list of calls in slices: where it ends, where it goes on with a call, and what follows of the whole. Assumes nothing.
 use mathlib.Core.Path.{_≡_, refl, ap, sym, subst, _∙_}
-use mathlib.Core.Bool.{Bool, true, false, cond, _&&_, _||_, false≢true}
+use mathlib.Core.Bool.{Bool, true, false, _&&_, _||_, false≢true}
 use mathlib.Core.List.{List, [], _∷_, _++_, append-assoc}
 use Prim.Native.Nat.{ℕ, suc, _+_, _-_, _≤_, _<_}
 use native.Mathlib.Omega.{arith}
@@ -10,9 +10,9 @@ use lib.Seq.{drop-drop}
 use borrow.Author.Tests.{ltb-true, leb-true, eqb-true}
 use Rattle.steps.specs.State.{empty}
 use Rattle.steps.specs.Call as C
-use Rattle.steps.specs.Call.{Call, Outcome}
+use Rattle.steps.specs.Call.{Outcome}
 use Rattle.steps.specs.Step.{over, outcomes}
-use Rattle.steps.specs.Trace.{Kind, Does, Trace, stop, call}
+use Rattle.steps.specs.Trace.{Kind, Trace, stop, call}
 use Rattle.replay.specs.Tape.{callOf, lends, known, fits, coded, decode, outsOf, outs2Of, answersOf, Turned, Ran}
 use Rattle.multimap.specs.Map.{stateOf}
 use Rattle.multimap.specs.WellLinked.{WellLinked, linked}

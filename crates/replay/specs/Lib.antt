@@ -2,3 +2,4 @@ pub mod Tape
 pub mod Answers
 pub mod Played
 pub mod Place
+pub mod Encode

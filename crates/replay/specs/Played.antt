@@ -4,7 +4,6 @@ use mathlib.Core.List.{List}
 use Prim.Native.Nat.{ℕ}
 use lib.ListN.{length}
 use Rattle.steps.specs.State.{empty}
-use Rattle.steps.specs.Call.{Call}
 use Rattle.steps.specs.Step.{outcomes, over}
 use Rattle.steps.specs.Trace.{Trace}
 use Rattle.multimap.specs.Map.{stateOf}

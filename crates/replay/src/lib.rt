@@ -233,7 +233,7 @@ fn advance(
         let e2 = q.out2;
         let e3 = q.mark;
         let b = q.answer;
-        let held = turn(
+        let turned = turn(
             m,
             h,
             &mut outs[at..e],
@@ -242,7 +242,7 @@ fn advance(
             &mut answers[a..b],
         );
         Moved {
-            map: held,
+            map: turned,
             place: q,
         }
     } else {

@@ -17,13 +17,6 @@ use Rattle.replay.proofs.Places.{stops-short, stops-not, ready, goes-on
 use borrow.Author.Needs.{needs}
 use Rattle.replay.proofs.advance.Statement.{statement}
 use Rattle.replay.proofs.advance.Tie as tie
-use Rattle.replay.proofs.advance.Reads as reads
-use Rattle.replay.proofs.advance.Lts as lts
-use Rattle.replay.proofs.after.Reads as after-reads
-use Rattle.replay.proofs.fits.Reads as fits-reads
-use Rattle.replay.proofs.read_head.Reads as read-head-reads
-use Rattle.replay.proofs.stop.Reads as stop-reads
-use Rattle.replay.proofs.turn.Reads as turn-reads
 
 -- what it is that the next call fits
 module _ (c : tie.After-fits2) (e : c .fits2 .result ≡ true) where
@@ -82,131 +75,99 @@ module _ (c : tie.After-after) where
       h (c .before .before .before .read-head .ensures) (c .before .before .before .before .if1 .left) (at .pre .1) (sym (c .before .before .fits2 .ensures) ∙ c .before .if2 .taken)
       (q .out - at .args .p .out) (q .out2 - at .args .p .out2) (q .mark - at .args .p .mark) (q .answer - at .args .p .answer) n-is n2-is n3-is four q m′ o o2 k (c .after .ensures) ol o2l t
 
--- src/lib.rt:219:8
 sub-if1 : tie.Need-sub-if1
 sub-if1 c = search needs
 
--- src/lib.rt:222:20
 stop-requires : tie.Need-stop-requires
 stop-requires c κs = search needs
 
--- src/lib.rt:220:9
 returns : tie.Need-returns
 returns c = stops-short (c .before .before .before .before .before .before .before .args .calls .now) (c .before .before .before .before .before .before .before .args .marks .now) (c .before .before .before .before .before .before .before .args .p) (c .before .before .before .before .before .before .before .args .outs .now) (c .before .before .before .before .before .before .before .args .outs2 .now) (c .before .before .before .before .before .before .before .args .answers .now) (c .before .before .before .before .before .before .before .args .m) (c .stop .result) (c .stop .ensures) (c .before .if1 .taken)
 
--- src/lib.rt:225:9
 read-head-requires : tie.Need-read-head-requires
 read-head-requires c κs = search needs
 
--- src/lib.rt:226:17
 sub-room : tie.Need-sub-room
 sub-room c = search needs
 
--- src/lib.rt:227:18
 sub-room2 : tie.Need-sub-room2
 sub-room2 c = search needs
 
--- src/lib.rt:228:18
 sub-room3 : tie.Need-sub-room3
 sub-room3 c = search needs
 
--- src/lib.rt:229:18
 sub-space : tie.Need-sub-space
 sub-space c = search needs
 
--- src/lib.rt:230:8
 fits-requires : tie.Need-fits-requires
 fits-requires c κs = search needs
 
--- src/lib.rt:231:13
 after-requires : tie.Need-after-requires
 after-requires c κs = omega (arith, fit (c .before) (c .if2 .taken), c .before .before .before .before .before .before .before .before .before .pre .1, c .before .before .before .before .before .before .before .before .before .good .1 .1 .1 .1 .1 .1 .0)
 
--- src/lib.rt:239:13
 mul-turn : tie.Need-mul-turn
 mul-turn c = record { fits = omega (arith, c .before .before .before .before .before .before .before .before .before .before .pre .1, c .before .before .before .before .before .before .before .before .before .before .good .1 .1 .1 .0) }
 
--- src/lib.rt:239:13
 sub-turn : tie.Need-sub-turn
 sub-turn c = search needs
 
--- src/lib.rt:239:13
 part-turn-start : tie.Need-part-turn-start
 part-turn-start c = search needs
 
--- src/lib.rt:239:13
 part-turn-end : tie.Need-part-turn-end
 part-turn-end c = omega (arith, fit (c .before .before) (c .before .if2 .taken), c .after .ensures)
 
--- src/lib.rt:240:13
 mul-turn-2 : tie.Need-mul-turn-2
 mul-turn-2 c = record { fits = omega (arith, c .before .before .before .before .before .before .before .before .before .before .before .pre .1, c .before .before .before .before .before .before .before .before .before .before .before .good .1 .1 .1 .1 .0) }
 
--- src/lib.rt:240:13
 sub-turn-2 : tie.Need-sub-turn-2
 sub-turn-2 c = search needs
 
--- src/lib.rt:240:13
 part-turn-start-2 : tie.Need-part-turn-start-2
 part-turn-start-2 c = search needs
 
--- src/lib.rt:240:13
 part-turn-end-2 : tie.Need-part-turn-end-2
 part-turn-end-2 c = omega (arith, fit (c .before .before .before) (c .before .before .if2 .taken), c .before .after .ensures)
 
--- src/lib.rt:241:13
 sub-turn-3 : tie.Need-sub-turn-3
 sub-turn-3 c = search needs
 
--- src/lib.rt:241:13
 part-turn-start-3 : tie.Need-part-turn-start-3
 part-turn-start-3 c = search needs
 
--- src/lib.rt:241:13
 part-turn-end-3 : tie.Need-part-turn-end-3
 part-turn-end-3 c = omega (arith, fit (c .before .before .before .before) (c .before .before .before .if2 .taken), c .before .before .after .ensures)
 
--- src/lib.rt:242:13
 mul-turn-3 : tie.Need-mul-turn-3
 mul-turn-3 c = record { fits = omega (arith, c .before .before .before .before .before .before .before .before .before .before .before .before .before .pre .1, c .before .before .before .before .before .before .before .before .before .before .before .before .before .good .1 .1 .1 .1 .1 .1 .0) }
 
--- src/lib.rt:242:13
 sub-turn-4 : tie.Need-sub-turn-4
 sub-turn-4 c = search needs
 
--- src/lib.rt:242:13
 part-turn-start-4 : tie.Need-part-turn-start-4
 part-turn-start-4 c = search needs
 
--- src/lib.rt:242:13
 part-turn-end-4 : tie.Need-part-turn-end-4
 part-turn-end-4 c = omega (arith, fit (c .before .before .before .before .before) (c .before .before .before .before .if2 .taken), c .before .before .before .after .ensures)
 
--- src/lib.rt:236:13
 turn-requires : tie.Need-turn-requires
 turn-requires c κs = ready-here (c .before .before .before .before)
 
--- src/lib.rt:251:20
 stop-requires-2 : tie.Need-stop-requires-2
 stop-requires-2 c κs = search needs
 
--- src/lib.rt:201:1
 same-length : tie.Need-same-length
 same-length c = search needs
 
--- src/lib.rt:201:1
 same-length-2 : tie.Need-same-length-2
 same-length-2 c = search needs
 
--- src/lib.rt:201:1
 same-length-3 : tie.Need-same-length-3
 same-length-3 c = search needs
 
--- src/lib.rt:201:1
 returns-2 : tie.Need-returns-2
 returns-2 c = goes-on-here (c .before .before .before .before .before .before .before .before .before .before .before) (c .before .before .before .before .before .before .turn .result) (c .before .before .before .before .before .before .turn .last .1 .1 .0) (c .before .before .before .before .before .before .turn .last .1 .1 .1 .0) (c .before .before .before .before .before .before .turn .last .1 .1 .1 .1 .1 .0) (c .before .before .before .before .before .before .turn .kept .1 .1 .0) (c .before .before .before .before .before .before .turn .kept .1 .1 .1 .0) (c .before .before .before .before .before .before .turn .ensures)
 
--- src/lib.rt:201:1
 returns-3 : tie.Need-returns-3
 returns-3 c = stops-not (c .before .before .before .before .before .before .before .before .before .before .args .calls .now) (c .before .before .before .before .before .before .before .before .before .before .args .marks .now) (c .before .before .before .before .before .before .before .before .before .before .args .p) (c .before .before .before .before .before .before .before .before .before .before .args .outs .now) (c .before .before .before .before .before .before .before .before .before .before .args .outs2 .now) (c .before .before .before .before .before .before .before .before .before .before .args .answers .now) (c .before .before .before .before .before .before .before .before .before .before .args .m) (c .before .before .before .read-head .result) (c .before .before .before .read-head .ensures) (c .before .before .before .before .if1 .left) (c .before .before .before .before .before .before .before .before .before .before .pre .1) (c .stop2 .result) (c .stop2 .ensures) (sym (c .before .before .fits2 .ensures) ∙ c .before .if2 .left)
 

@@ -1,34 +1,25 @@
+-- `replay::fits` meets its contract. Assumes nothing.
 use mathlib.Core.Path.{refl}
 use Rattle.replay.specs.Tape.{fits}
 use borrow.Author.Needs.{needs}
 use Rattle.replay.proofs.fits.Statement.{statement}
 use Rattle.replay.proofs.fits.Tie as tie
-use Rattle.replay.proofs.fits.Reads as reads
-use Rattle.replay.proofs.fits.Lts as lts
-use Rattle.replay.proofs.both.Reads as both-reads
-use Rattle.replay.proofs.known.Reads as known-reads
 
--- src/lib.rt:100:9
 both-requires : tie.Need-both-requires
 both-requires c κs = search needs
 
--- src/lib.rt:101:10
 known-requires : tie.Need-known-requires
 known-requires c κs = search needs
 
--- src/lib.rt:101:33
 both-requires-2 : tie.Need-both-requires-2
 both-requires-2 c κs = search needs
 
--- src/lib.rt:101:20
 both-requires-3 : tie.Need-both-requires-3
 both-requires-3 c κs = search needs
 
--- src/lib.rt:101:5
 both-requires-4 : tie.Need-both-requires-4
 both-requires-4 c κs = search needs
 
--- src/lib.rt:97:1
 returns : tie.Need-returns
 unfolding fits
 returns c = rw (c .both4 .ensures, c .before .before .before .before .known .ensures, c .before .both3 .ensures, c .before .before .before .before .before .both .ensures, c .before .before .both2 .ensures) refl

@@ -3,32 +3,22 @@ use Rattle.replay.proofs.Tapes.{played}
 use borrow.Author.Needs.{needs}
 use Rattle.replay.proofs.replay.Statement.{statement}
 use Rattle.replay.proofs.replay.Tie as tie
-use Rattle.replay.proofs.replay.Reads as reads
-use Rattle.replay.proofs.replay.Lts as lts
-use Rattle.multimap.proofs.new.Reads as new-reads
-use Rattle.replay.proofs.run.Reads as run-reads
 
--- src/lib.rt:304:9
 new-requires : tie.Need-new-requires
 new-requires c κs = search needs
 
--- src/lib.rt:305:5
 run-requires : tie.Need-run-requires
 run-requires c κs = search needs
 
--- src/lib.rt:294:1
 same-length : tie.Need-same-length
 same-length c = search needs
 
--- src/lib.rt:294:1
 same-length-2 : tie.Need-same-length-2
 same-length-2 c = search needs
 
--- src/lib.rt:294:1
 same-length-3 : tie.Need-same-length-3
 same-length-3 c = search needs
 
--- src/lib.rt:294:1
 returns : tie.Need-returns
 returns c =
     played (c .before .before .before .before .before .before .before .before .before .before .before .before .before .before .before .before .args .calls .now) (c .before .before .before .before .before .before .before .before .before .before .before .before .before .before .before .before .args .outs .now) (c .before .before .before .before .before .before .before .before .before .before .before .before .before .before .before .before .args .outs2 .now) (c .before .before .before .before .before .before .before .before .before .before .before .before .before .before .before .before .args .marks .now) (c .before .before .before .before .before .before .before .before .before .before .before .before .before .before .before .before .args .answers .now) (c .before .before .before .before .before .before .run .last .1 .1 .0) (c .before .before .before .before .before .before .run .last .1 .1 .1 .0) (c .before .before .before .before .before .before .run .last .1 .1 .1 .1 .1 .0)

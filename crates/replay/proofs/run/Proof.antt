@@ -9,9 +9,6 @@ use Rattle.replay.proofs.Running.{begins, stops}
 use Rattle.replay.proofs.Places.{at-within, ahead, nearer}
 use Rattle.replay.proofs.run.Statement.{statement}
 use Rattle.replay.proofs.run.Tie as tie
-use Rattle.replay.proofs.run.Reads as reads
-use Rattle.replay.proofs.run.Lts as lts
-use Rattle.replay.proofs.advance.Reads as advance-reads
 
 abbrev Inv-loop : tie.InvT-loop
 Inv-loop calls outs₀ outs2₀ marks answers₀ held₀ p₀ outs outs2 answers held p =
@@ -37,38 +34,30 @@ module _ (c : tie.After-advance Inv-loop μ-loop) where
       (c .advance .last .1 .1 .1 .0) (c .advance .last .1 .1 .1 .1 .0) (c .advance .last .1 .1 .1 .1 .1 .1 .0) (c .advance .result .map)
   turned = c .advance .ensures .keeps (s .args .outs .now) (s .args .outs2 .now) (s .args .answers .now) (s .args .m) (l .loop .inv .0)
 
--- src/lib.rt:279:5
 loop-holds : tie.Need-loop-holds Inv-loop μ-loop
 loop-holds c = (
   begins linked (c .before .before .before .before .before .args .calls .now) (c .before .before .before .before .before .args .outs .now) (c .before .before .before .before .before .args .outs2 .now) (c .before .before .before .before .before .args .marks .now) (c .before .before .before .before .before .args .answers .now) (c .before .before .before .before .before .args .m) (c .before .before .before .before .before .pre),
   λ e. absurd (true≢false e),
 )
 
--- src/lib.rt:280:13
 advance-requires : tie.Need-advance-requires Inv-loop μ-loop
 advance-requires c κs = (c .before .before .before .before .loop .inv .0 .linked, within (c .before .before .before .before))
 
--- src/lib.rt:279:5
 loop-less : tie.Need-loop-less Inv-loop μ-loop
 loop-less c = nearer (c .before .before .before .before .before .before .before .before .before .before .before .before .before .loop .p) (c .before .before .before .before .before .before .before .before .advance .result .place) (c .before .before .before .before .before .before .before .before .before .before .before .before .before .before .before .before .before .before .before .args .calls .now) (c .before .before .before .before .before .before .before .before .before .before .before .before .loop-test .taken) (turned (c .before .before .before .before .before .before .before .before) .i-in) (c .before .before .before .before .before .before .before .before .advance .ensures .onward)
 
--- src/lib.rt:279:5
 loop-again : tie.Need-loop-again Inv-loop μ-loop
 loop-again c = (turned (c .before .before .before .before .before .before .before .before), c .before .before .before .before .before .before .before .before .advance .ensures .ended)
 
--- src/lib.rt:257:1
 same-length : tie.Need-same-length Inv-loop μ-loop
 same-length c = c .before .loop .inv .0 .outs-len
 
--- src/lib.rt:257:1
 same-length-2 : tie.Need-same-length-2 Inv-loop μ-loop
 same-length-2 c = c .before .loop .inv .0 .outs2-len
 
--- src/lib.rt:257:1
 same-length-3 : tie.Need-same-length-3 Inv-loop μ-loop
 same-length-3 c = c .before .loop .inv .0 .ans-len
 
--- src/lib.rt:257:1
 returns : tie.Need-returns Inv-loop μ-loop
 returns c =
     stops linked (c .before .before .before .before .before .before .before .args .calls .now) (c .before .before .before .before .before .before .before .args .outs .now) (c .before .before .before .before .before .before .before .args .outs2 .now) (c .before .before .before .before .before .before .before .args .marks .now) (c .before .before .before .before .before .before .before .args .answers .now) (c .before .before .before .before .before .before .before .args .m) (c .before .loop .outs) (c .before .loop .outs2) (c .before .loop .answers) (c .before .loop .held) (c .before .loop .p .call) (c .before .loop .p .out) (c .before .loop .p .out2) (c .before .loop .p .mark) (c .before .loop .p .answer) (c .before .loop .p .ran) (c .before .loop .inv .0) (c .before .loop .inv .1 (c .loop-test .left))

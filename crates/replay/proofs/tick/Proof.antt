@@ -15,32 +15,6 @@ use Rattle.replay.proofs.Arms.{no-slices, one-slice, last-one}
 use borrow.Author.Needs.{needs}
 use Rattle.replay.proofs.tick.Statement.{statement}
 use Rattle.replay.proofs.tick.Tie as tie
-use Rattle.replay.proofs.tick.Reads as reads
-use Rattle.replay.proofs.tick.Lts as lts
-use Rattle.replay.proofs.calls.append.Reads as append-reads
-use Rattle.replay.proofs.calls.clear.Reads as clear-reads
-use Rattle.replay.proofs.calls.contains_key.Reads as contains-key-reads
-use Rattle.replay.proofs.calls.entry.Reads as entry-reads
-use Rattle.replay.proofs.calls.entry_len.Reads as entry-len-reads
-use Rattle.replay.proofs.calls.get.Reads as get-reads
-use Rattle.replay.proofs.calls.get_all.Reads as get-all-reads
-use Rattle.replay.proofs.calls.insert.Reads as insert-reads
-use Rattle.replay.proofs.calls.insert_all.Reads as insert-all-reads
-use Rattle.replay.proofs.calls.iter.Reads as iter-reads
-use Rattle.replay.proofs.calls.keys.Reads as keys-reads
-use Rattle.replay.proofs.calls.keys_len.Reads as keys-len-reads
-use Rattle.replay.proofs.calls.occupied_append.Reads as occupied-append-reads
-use Rattle.replay.proofs.calls.occupied_insert.Reads as occupied-insert-reads
-use Rattle.replay.proofs.calls.occupied_remove_entry.Reads as occupied-remove-entry-reads
-use Rattle.replay.proofs.calls.pack_to.Reads as pack-to-reads
-use Rattle.replay.proofs.calls.pop_back.Reads as pop-back-reads
-use Rattle.replay.proofs.calls.pop_front.Reads as pop-front-reads
-use Rattle.replay.proofs.calls.remove.Reads as remove-reads
-use Rattle.replay.proofs.calls.remove_all.Reads as remove-all-reads
-use Rattle.replay.proofs.calls.retain.Reads as retain-reads
-use Rattle.replay.proofs.calls.taken.Reads as taken-reads
-use Rattle.replay.proofs.calls.vacant_insert.Reads as vacant-insert-reads
-use Rattle.replay.proofs.calls.values_len.Reads as values-len-reads
 
 module _ (s : tie.Start) (j : ℕ) (is : s .args .op ≡ j) {a : C.Answer} {m′ : ListOrderedMultimap} where
   -- a call without slices
@@ -66,219 +40,165 @@ module _ (s : tie.Start) (j : ℕ) (is : s .args .op ≡ j) {a : C.Answer} {m′
       subst⁻¹ (λ (op : ℕ). Does linked (callOf op (s .args .k) (s .args .v) (s .args .out .now) (s .args .out2 .now) (s .args .marks .now)) (s .args .m) (record { answer = a; slices = lend out out2 }) m′)
       is d
 
--- src/lib.rt:162:14
 append-requires : tie.Need-append-requires
 append-requires c κs = search needs
 
--- src/lib.rt:163:14
 insert-requires : tie.Need-insert-requires
 insert-requires c κs = search needs
 
--- src/lib.rt:164:14
 insert-all-requires : tie.Need-insert-all-requires
 insert-all-requires c κs = search needs
 
--- src/lib.rt:165:14
 remove-requires : tie.Need-remove-requires
 remove-requires c κs = search needs
 
--- src/lib.rt:166:14
 remove-all-requires : tie.Need-remove-all-requires
 remove-all-requires c κs = search needs
 
--- src/lib.rt:167:14
 entry-requires : tie.Need-entry-requires
 entry-requires c κs = search needs
 
--- src/lib.rt:168:14
 occupied-append-requires : tie.Need-occupied-append-requires
 occupied-append-requires c κs = search needs
 
--- src/lib.rt:169:14
 occupied-insert-requires : tie.Need-occupied-insert-requires
 occupied-insert-requires c κs = search needs
 
--- src/lib.rt:170:14
 occupied-remove-entry-requires : tie.Need-occupied-remove-entry-requires
 occupied-remove-entry-requires c κs = search needs
 
--- src/lib.rt:171:14
 vacant-insert-requires : tie.Need-vacant-insert-requires
 vacant-insert-requires c κs = search needs
 
--- src/lib.rt:172:15
 pop-front-requires : tie.Need-pop-front-requires
 pop-front-requires c κs = search needs
 
--- src/lib.rt:173:15
 pop-back-requires : tie.Need-pop-back-requires
 pop-back-requires c κs = search needs
 
--- src/lib.rt:174:15
 retain-requires : tie.Need-retain-requires
 retain-requires c κs = search needs
 
--- src/lib.rt:175:15
 pack-to-requires : tie.Need-pack-to-requires
 pack-to-requires c κs = search needs
 
--- src/lib.rt:176:15
 clear-requires : tie.Need-clear-requires
 clear-requires c κs = search needs
 
--- src/lib.rt:177:15
 get-requires : tie.Need-get-requires
 get-requires c κs = search needs
 
--- src/lib.rt:178:15
 get-all-requires : tie.Need-get-all-requires
 get-all-requires c κs = search needs
 
--- src/lib.rt:179:15
 entry-len-requires : tie.Need-entry-len-requires
 entry-len-requires c κs = search needs
 
--- src/lib.rt:180:15
 contains-key-requires : tie.Need-contains-key-requires
 contains-key-requires c κs = search needs
 
--- src/lib.rt:181:15
 keys-requires : tie.Need-keys-requires
 keys-requires c κs = search needs
 
--- src/lib.rt:182:15
 keys-len-requires : tie.Need-keys-len-requires
 keys-len-requires c κs = search needs
 
--- src/lib.rt:183:15
 values-len-requires : tie.Need-values-len-requires
 values-len-requires c κs = search needs
 
--- src/lib.rt:184:15
 iter-requires : tie.Need-iter-requires
 iter-requires c κs = search needs
 
--- src/lib.rt:185:14
 taken-requires : tie.Need-taken-requires
 taken-requires c κs = search needs
 
--- src/lib.rt:148:1
 returns : tie.Need-returns
 returns c = plain (c .before .before .before .before .before) 0 (c .before .match .keys1) refl refl (c .append .ensures)
 
--- src/lib.rt:148:1
 returns-2 : tie.Need-returns-2
 returns-2 c = plain (c .before .before .before .before .before) 1 (c .before .match .keys2) refl refl (c .insert .ensures)
 
--- src/lib.rt:148:1
 same-length : tie.Need-same-length
 same-length c = search needs
 
--- src/lib.rt:148:1
 returns-3 : tie.Need-returns-3
 returns-3 c = lent (c .before .before .before .before .before .before .before .before) 2 (c .before .before .before .before .match .keys3) refl (c .before .before .insert-all .ensures)
 
--- src/lib.rt:148:1
 returns-4 : tie.Need-returns-4
 returns-4 c = plain (c .before .before .before .before .before) 3 (c .before .match .keys4) refl refl (c .remove .ensures)
 
--- src/lib.rt:148:1
 same-length-2 : tie.Need-same-length-2
 same-length-2 c = search needs
 
--- src/lib.rt:148:1
 returns-5 : tie.Need-returns-5
 returns-5 c = lent (c .before .before .before .before .before .before .before .before) 4 (c .before .before .before .before .match .keys5) refl (c .before .before .remove-all .ensures)
 
--- src/lib.rt:148:1
 returns-6 : tie.Need-returns-6
 returns-6 c = plain (c .before .before .before .before .before) 5 (c .before .match .keys6) refl refl (c .entry .ensures)
 
--- src/lib.rt:148:1
 returns-7 : tie.Need-returns-7
 returns-7 c = plain (c .before .before .before .before .before) 6 (c .before .match .keys7) refl refl (c .occupied-append .ensures)
 
--- src/lib.rt:148:1
 returns-8 : tie.Need-returns-8
 returns-8 c = plain (c .before .before .before .before .before) 7 (c .before .match .keys8) refl refl (c .occupied-insert .ensures)
 
--- src/lib.rt:148:1
 returns-9 : tie.Need-returns-9
 returns-9 c = plain (c .before .before .before .before .before) 8 (c .before .match .keys9) refl refl (c .occupied-remove-entry .ensures)
 
--- src/lib.rt:148:1
 returns-10 : tie.Need-returns-10
 returns-10 c = plain (c .before .before .before .before .before) 9 (c .before .match .keys10) refl refl (c .vacant-insert .ensures)
 
--- src/lib.rt:148:1
 returns-11 : tie.Need-returns-11
 returns-11 c = plain (c .before .before .before .before .before) 10 (c .before .match .keys11) refl refl (c .pop-front .ensures)
 
--- src/lib.rt:148:1
 returns-12 : tie.Need-returns-12
 returns-12 c = plain (c .before .before .before .before .before) 11 (c .before .match .keys12) refl refl (c .pop-back .ensures)
 
--- src/lib.rt:148:1
 returns-13 : tie.Need-returns-13
 returns-13 c = plain (c .before .before .before .before .before) 12 (c .before .match .keys13) refl refl (c .retain .ensures)
 
--- src/lib.rt:148:1
 returns-14 : tie.Need-returns-14
 returns-14 c = plain (c .before .before .before .before .before) 13 (c .before .match .keys14) refl refl (c .pack-to .ensures)
 
--- src/lib.rt:148:1
 returns-15 : tie.Need-returns-15
 returns-15 c = plain (c .before .before .before .before .before) 14 (c .before .match .keys15) refl refl (c .clear .ensures)
 
--- src/lib.rt:148:1
 returns-16 : tie.Need-returns-16
 returns-16 c = plain (c .before .before .before .before .before) 15 (c .before .match .keys16) refl refl (c .get .ensures)
 
--- src/lib.rt:148:1
 same-length-3 : tie.Need-same-length-3
 same-length-3 c = search needs
 
--- src/lib.rt:148:1
 returns-17 : tie.Need-returns-17
 returns-17 c = lent (c .before .before .before .before .before .before .before .before) 16 (c .before .before .before .before .match .keys17) refl (c .before .before .get-all .ensures)
 
--- src/lib.rt:148:1
 returns-18 : tie.Need-returns-18
 returns-18 c = plain (c .before .before .before .before .before) 17 (c .before .match .keys18) refl refl (c .entry-len .ensures)
 
--- src/lib.rt:148:1
 returns-19 : tie.Need-returns-19
 returns-19 c = plain (c .before .before .before .before .before) 18 (c .before .match .keys19) refl refl (c .contains-key .ensures)
 
--- src/lib.rt:148:1
 same-length-4 : tie.Need-same-length-4
 same-length-4 c = search needs
 
--- src/lib.rt:148:1
 returns-20 : tie.Need-returns-20
 returns-20 c = lent (c .before .before .before .before .before .before .before .before) 19 (c .before .before .before .before .match .keys20) refl (c .before .before .keys .ensures)
 
--- src/lib.rt:148:1
 returns-21 : tie.Need-returns-21
 returns-21 c = plain (c .before .before .before .before .before) 20 (c .before .match .keys21) refl refl (c .keys-len .ensures)
 
--- src/lib.rt:148:1
 returns-22 : tie.Need-returns-22
 returns-22 c = plain (c .before .before .before .before .before) 21 (c .before .match .keys22) refl refl (c .values-len .ensures)
 
--- src/lib.rt:148:1
 same-length-5 : tie.Need-same-length-5
 same-length-5 c = search needs
 
--- src/lib.rt:148:1
 same-length-6 : tie.Need-same-length-6
 same-length-6 c = search needs
 
--- src/lib.rt:148:1
 returns-23 : tie.Need-returns-23
 returns-23 c = both-lent (c .before .before .before .before .before .before .before .before .before .before .before) 22 (c .before .before .before .before .before .before .before .match .keys23) (c .before .before .before .before .iter .ensures)
 
--- src/lib.rt:148:1
 returns-24 : tie.Need-returns-24
 returns-24 c = plain (c .before .before .before .before .before) 23 (last-one (c .before .before .before .before .before .args .op) (c .before .before .before .before .before .pre .known) (c .before .match .rest)) refl refl (c .taken .ensures)
 

@@ -1,32 +1,25 @@
+-- `replay::answers::added` meets its contract. Assumes nothing.
 use mathlib.Core.Path.{sym, ap}
 use Rattle.changing.specs.AddingAnswer.{addedOf}
 use borrow.Author.Needs.{needs}
 use Rattle.replay.proofs.answers.added.Statement.{statement}
 use Rattle.replay.proofs.answers.added.Tie as tie
-use Rattle.replay.proofs.answers.added.Reads as reads
-use Rattle.replay.proofs.answers.added.Lts as lts
 
--- src/answers.rt:41:24
 enum-known-a : tie.Need-enum-known-a
 enum-known-a c = search needs
 
--- src/answers.rt:42:24
 enum-told : tie.Need-enum-told
 enum-told c = search needs
 
--- src/answers.rt:43:27
 enum-told-2 : tie.Need-enum-told-2
 enum-told-2 c = search needs
 
--- src/answers.rt:37:1
 returns : tie.Need-returns
 returns c = sym (ap addedOf (c .before .a .given .1))
 
--- src/answers.rt:37:1
 returns-2 : tie.Need-returns-2
 returns-2 c = search needs
 
--- src/answers.rt:37:1
 returns-3 : tie.Need-returns-3
 returns-3 c = search needs
 

@@ -1,52 +1,37 @@
+-- `replay::answers::code` meets its contract. Assumes nothing.
 use Rattle.replay.specs.Answers.{answerOf}
 use Rattle.replay.proofs.Tapes.{coded-words}
 use borrow.Author.Needs.{needs}
 use Rattle.replay.proofs.answers.code.Statement.{statement}
 use Rattle.replay.proofs.answers.code.Tie as tie
-use Rattle.replay.proofs.answers.code.Reads as reads
-use Rattle.replay.proofs.answers.code.Lts as lts
-use Rattle.replay.proofs.answers.word0.Reads as word0-reads
-use Rattle.replay.proofs.answers.word1.Reads as word1-reads
-use Rattle.replay.proofs.answers.word2.Reads as word2-reads
-use Rattle.replay.proofs.answers.word3.Reads as word3-reads
 
--- src/answers.rt:235:14
 word0-requires : tie.Need-word0-requires
 word0-requires c κs = search needs
 
--- src/answers.rt:235:5
 slice-write-ans : tie.Need-slice-write-ans
 slice-write-ans c = search needs
 
--- src/answers.rt:236:14
 word1-requires : tie.Need-word1-requires
 word1-requires c κs = search needs
 
--- src/answers.rt:236:5
 slice-write-ans-2 : tie.Need-slice-write-ans-2
 slice-write-ans-2 c = search needs
 
--- src/answers.rt:237:14
 word2-requires : tie.Need-word2-requires
 word2-requires c κs = search needs
 
--- src/answers.rt:237:5
 slice-write-ans-3 : tie.Need-slice-write-ans-3
 slice-write-ans-3 c = search needs
 
--- src/answers.rt:238:14
 word3-requires : tie.Need-word3-requires
 word3-requires c κs = search needs
 
--- src/answers.rt:238:5
 slice-write-ans-4 : tie.Need-slice-write-ans-4
 slice-write-ans-4 c = search needs
 
--- src/answers.rt:231:1
 same-length : tie.Need-same-length
 same-length c = search needs
 
--- src/answers.rt:231:1
 returns : tie.Need-returns
 returns c = coded-words (answerOf (c .before .before .before .before .before .args .a)) (c .before .before .before .before .before .args .ans .now) _ _ _ _ (c .before .before .before .before .before .pre) (c .before .before .before .word0 .ensures) (c .before .before .word1 .ensures) (c .before .word2 .ensures) (c .word3 .ensures)
 

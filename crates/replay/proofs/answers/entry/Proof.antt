@@ -1,28 +1,22 @@
+-- `replay::answers::entry` meets its contract. Assumes nothing.
 use mathlib.Core.Path.{sym, ap}
 use Rattle.reading.specs.Answers.{entryAnswerOf}
 use borrow.Author.Needs.{needs}
 use Rattle.replay.proofs.answers.entry.Statement.{statement}
 use Rattle.replay.proofs.answers.entry.Tie as tie
-use Rattle.replay.proofs.answers.entry.Reads as reads
-use Rattle.replay.proofs.answers.entry.Lts as lts
 
--- src/answers.rt:151:25
 enum-known-a : tie.Need-enum-known-a
 enum-known-a c = search needs
 
--- src/answers.rt:151:48
 cast-t5 : tie.Need-cast-t5
 cast-t5 c = search needs
 
--- src/answers.rt:152:23
 enum-known-a-2 : tie.Need-enum-known-a-2
 enum-known-a-2 c = search needs
 
--- src/answers.rt:147:1
 returns : tie.Need-returns
 returns c = sym (ap entryAnswerOf (c .before .a .given .1))
 
--- src/answers.rt:147:1
 returns-2 : tie.Need-returns-2
 returns-2 c = sym (ap entryAnswerOf (c .before .a2 .given .1))
 

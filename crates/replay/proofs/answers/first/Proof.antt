@@ -1,24 +1,19 @@
+-- `replay::answers::first` meets its contract. Assumes nothing.
 use mathlib.Core.Path.{sym, ap}
 use Rattle.entries.specs.Answers.{firstOf}
 use borrow.Author.Needs.{needs}
 use Rattle.replay.proofs.answers.first.Statement.{statement}
 use Rattle.replay.proofs.answers.first.Tie as tie
-use Rattle.replay.proofs.answers.first.Reads as reads
-use Rattle.replay.proofs.answers.first.Lts as lts
 
--- src/answers.rt:131:22
 enum-known-a : tie.Need-enum-known-a
 enum-known-a c = search needs
 
--- src/answers.rt:132:26
 enum-told : tie.Need-enum-told
 enum-told c = search needs
 
--- src/answers.rt:127:1
 returns : tie.Need-returns
 returns c = sym (ap firstOf (c .before .a .given .1))
 
--- src/answers.rt:127:1
 returns-2 : tie.Need-returns-2
 returns-2 c = search needs
 

@@ -1,40 +1,31 @@
+-- `replay::answers::inserted` meets its contract. Assumes nothing.
 use mathlib.Core.Path.{sym, ap}
 use Rattle.changing.specs.InsertingAnswer.{insertedOf}
 use borrow.Author.Needs.{needs}
 use Rattle.replay.proofs.answers.inserted.Statement.{statement}
 use Rattle.replay.proofs.answers.inserted.Tie as tie
-use Rattle.replay.proofs.answers.inserted.Reads as reads
-use Rattle.replay.proofs.answers.inserted.Lts as lts
 
--- src/answers.rt:51:30
 enum-told : tie.Need-enum-told
 enum-told c = search needs
 
--- src/answers.rt:52:25
 enum-known-a : tie.Need-enum-known-a
 enum-known-a c = search needs
 
--- src/answers.rt:53:27
 enum-told-2 : tie.Need-enum-told-2
 enum-told-2 c = search needs
 
--- src/answers.rt:54:30
 enum-told-3 : tie.Need-enum-told-3
 enum-told-3 c = search needs
 
--- src/answers.rt:47:1
 returns : tie.Need-returns
 returns c = search needs
 
--- src/answers.rt:47:1
 returns-2 : tie.Need-returns-2
 returns-2 c = sym (ap insertedOf (c .before .a .given .1))
 
--- src/answers.rt:47:1
 returns-3 : tie.Need-returns-3
 returns-3 c = search needs
 
--- src/answers.rt:47:1
 returns-4 : tie.Need-returns-4
 returns-4 c = search needs
 
