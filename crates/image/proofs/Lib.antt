@@ -1,2 +1,4 @@
 pub mod Writes
 pub mod Images
+pub mod Numbers
+pub mod Gathers

@@ -14,7 +14,7 @@ abbrev pub layout : ℕ → ℕ → List ℕ → List ℕ → List ℕ
 layout n m members rounds = bytes 4 n ++ (bytes 4 m ++ (array members ++ array rounds))
 
 -- the number in the first w bytes
-abbrev pub number : ℕ → List ℕ → ℕ
+unfoldable pub number : ℕ → List ℕ → ℕ
 number zero s = 0
 number (suc w) s = getD s 0 0 + 256 * number w (drop 1 s)
 

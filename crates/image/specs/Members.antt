@@ -10,9 +10,20 @@ use Rattle.steps.specs.Lists.{any}
 use Rattle.links.specs.Places.{order, Linked}
 use Rattle.links.specs.Links.{Chained}
 use Rattle.index.specs.Table.{Holds}
+use Rattle.index.specs.declared.Found.{Found}
+use Rattle.index.specs.declared.Found.the-variants.{At, Absent}
 use Rattle.multimap.specs.Map.{at, keyAt, roundsOf, membersOf, linksOf}
 use Rattle.multimap.specs.declared.ListOrderedMultimap.{ListOrderedMultimap}
 use Rattle.packing.specs.Moves.{upTo, EmptyRecord}
+
+-- the member place that a search found, or where it found none the next one; and where it ended
+abbrev pub placeOr : Found → ℕ → ℕ
+placeOr (At p k n) next = k .0
+placeOr (Absent p n) next = next
+
+abbrev pub endOf : Found → ℕ
+endOf (At p k n) = p
+endOf (Absent p n) = p
 
 -- the numbers of a list in order of first appearance, after those already met
 abbrev pub distinct : List ℕ → List ℕ → List ℕ

@@ -16,7 +16,8 @@ ghost use Rattle.multimap.specs.Map.{stateOf};
 ghost use Rattle.multimap.specs.WellLinked.{WellLinked};
 ghost use Rattle.image.specs.Bytes.{array, number, numbers, layout};
 ghost use Rattle.image.specs.Image.{writeOf};
-ghost use Rattle.image.specs.Answers.{writtenOf};
+ghost use Rattle.image.specs.Answers.{writtenOf, Reads, readingOf};
+ghost use Rattle.image.specs.Members.{placeOr, endOf, Gathered, Lined, Fillable, Filled};
 
 // What writing answers: how many bytes the image has; or refused by 3, since the slice is too short.
 pub enum Written {
@@ -93,4 +94,110 @@ pub fn write_image(m: ListOrderedMultimap, out: &mut [u8]) -> Written
     reading::iter(m, &mut members, &mut rounds);
     put_image(out, held, &members[..n], &rounds[..n]);
     Written::Length(size as u64)
+}
+
+// The number in the four bytes from `at` on.
+fn four(s: &[u8], at: usize) -> u64
+    requires { ⌜ at + 4 ≤ length (now s) ⌝ }
+    ensures { λ r. ⌜ (r ≡ number 4 (drop at (now (s .entry)))) × (r < 4294967296) ⌝ }
+{
+    let a = s[at] as u64;
+    let b = s[at + 1] as u64;
+    let c = s[at + 2] as u64;
+    let d = s[at + 3] as u64;
+    a + 256 * b + 65536 * c + 16777216 * d
+}
+
+// The number in the eight bytes from `at` on.
+fn eight(s: &[u8], at: usize) -> u64
+    requires { ⌜ at + 8 ≤ length (now s) ⌝ }
+    ensures { λ r. ⌜ r ≡ number 8 (drop at (now (s .entry))) ⌝ }
+{
+    let low = four(s, at);
+    let high = four(s, at + 4);
+    low + 4294967296 * high
+}
+
+// The first n numbers of eight bytes.
+fn read_numbers(s: &[u8], n: usize) -> [u64; 1024]
+    requires { ⌜ (n ≤ 1024) × (8 * n ≤ length (now s)) ⌝ }
+    ensures { λ r. ⌜ take n r ≡ numbers n (now (s .entry)) ⌝ }
+{
+    let mut out = [0u64; 1024];
+    let mut i = 0;
+    while i < n {
+        let x = eight(s, 8 * i);
+        out[i] = x;
+        i += 1;
+    }
+    out
+}
+
+// How many members there are, their numbers and the index; and of each number of an array its member place.
+struct Gathering {
+    keys: [u64; 256],
+    index: [u16; 512],
+    places: [u16; 1024],
+    count: u16,
+}
+
+// The member place that a search found; or where it found none, the next one.
+fn place_of(found: Found, next: u16) -> u16
+    ensures { λ r. ⌜ r ≡ placeOr found next ⌝ }
+{
+    match found {
+        Found::At(_, key, _) => key.0,
+        Found::Absent(_, _) => next,
+    }
+}
+
+// The place of the index where a search ended.
+fn ended_at(found: Found) -> usize
+    ensures { λ r. ⌜ r ≡ endOf found ⌝ }
+{
+    match found {
+        Found::At(at, _, _) => at,
+        Found::Absent(at, _) => at,
+    }
+}
+
+// The numbers as members: the distinct ones in the member places from 0 on, in order of first appearance. A count of 257 says that there
+// are more than 256. The stores for a number that is known already put what stands there.
+fn gather(numbers: &[u64]) -> Gathering
+    requires { ⌜ length (now numbers) ≤ 1024 ⌝ }
+    ensures { λ r. ⌜ Gathered (now (numbers .entry)) (r .keys) (r .index) (r .places) (r .count) ⌝ }
+{
+    let mut keys = [0u64; 256];
+    let mut index = index::empty();
+    let mut places = [0u16; 1024];
+    let mut count: u16 = 0;
+    let mut i = 0;
+    while i < numbers.len() {
+        let member = numbers[i];
+        let found = index::find(&index, &keys, member);
+        let key = place_of(found, count);
+        let at = ended_at(found);
+        if MEMBERS <= key {
+            return Gathering {
+                keys,
+                index,
+                places,
+                count: 257,
+            };
+        }
+        let k = key as usize;
+        keys[k] = member;
+        index[at] = key;
+        places[i] = key;
+        if key == count {
+            count += 1;
+        }
+        i += 1;
+    }
+    Gathering {
+        keys,
+        index,
+        places,
+        count,
+    }
 }
