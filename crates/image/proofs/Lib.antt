@@ -2,3 +2,5 @@ pub mod Writes
 pub mod Images
 pub mod Numbers
 pub mod Gathers
+pub mod Lines
+pub mod Fills

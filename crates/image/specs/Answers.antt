@@ -2,6 +2,7 @@
 use Prim.Native.Nat.{ℕ}
 use mathlib.Core.Path.{_≡_}
 use mathlib.Core.List.{List}
+use Rattle.steps.specs.State.{empty}
 use Rattle.steps.specs.Call.{Answer, refused, done, count}
 use Rattle.multimap.specs.Map.{stateOf}
 use Rattle.multimap.specs.WellLinked.{WellLinked}
@@ -28,3 +29,8 @@ pub record Reads (s : List ℕ) (a : Answer) (m : ListOrderedMultimap) : Type 0 
   pub answer : a ≡ readOf s .0
   pub state : stateOf m ≡ readOf s .1
   pub linked : WellLinked m
+
+-- the empty map, which a refused reading gives
+pub record Refuses (m : ListOrderedMultimap) : Type 0 where
+  pub linked : WellLinked m
+  pub state : stateOf m ≡ empty

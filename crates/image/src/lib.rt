@@ -16,7 +16,7 @@ ghost use Rattle.multimap.specs.Map.{stateOf};
 ghost use Rattle.multimap.specs.WellLinked.{WellLinked};
 ghost use Rattle.image.specs.Bytes.{array, number, numbers, layout};
 ghost use Rattle.image.specs.Image.{writeOf};
-ghost use Rattle.image.specs.Answers.{writtenOf, Reads, readingOf};
+ghost use Rattle.image.specs.Answers.{writtenOf, Reads, Refuses, readingOf};
 ghost use Rattle.image.specs.Members.{placeOr, endOf, Gathered, Lined, Fillable, Filled};
 
 // What writing answers: how many bytes the image has; or refused by 3, since the slice is too short.
@@ -199,5 +199,132 @@ fn gather(numbers: &[u64]) -> Gathering
         index,
         places,
         count,
+    }
+}
+
+// The map with `count` members in the member places from 0 on, with empty records, and no round.
+fn line_up(keys: [u64; 256], index: [u16; 512], count: u16) -> ListOrderedMultimap
+    requires { ⌜ count ≤ 256 ⌝ }
+    ensures { λ r. ⌜ Lined keys index count r ⌝ }
+{
+    let mut out = ListOrderedMultimap {
+        keys,
+        length: [0; 256],
+        next_key: [KeyPlace(0); 257],
+        previous_key: [KeyPlace(0); 257],
+        values: [0; 1024],
+        key_index: [KeyPlace(0); 1024],
+        next_value: [ValuePlace(0); 1025],
+        previous_value: [ValuePlace(0); 1025],
+        next_index: [ValuePlace(0); 1280],
+        previous_index: [ValuePlace(0); 1280],
+        index,
+        keys_len: 0,
+        keys_fresh: 0,
+        keys_free: KeyPlace(0),
+        values_len: 0,
+        values_fresh: 0,
+        values_free: ValuePlace(0),
+        taken: 0,
+    };
+    out.next_key[256] = KeyPlace(MEMBERS);
+    out.previous_key[256] = KeyPlace(MEMBERS);
+    out.next_value[1024] = ValuePlace(ROUNDS);
+    out.previous_value[1024] = ValuePlace(ROUNDS);
+    let mut i: u16 = 0;
+    while i < count {
+        let k = i as usize;
+        let last = out.previous_key[256];
+        out.next_key[last.0 as usize] = KeyPlace(i);
+        out.next_key[k] = KeyPlace(MEMBERS);
+        out.previous_key[k] = last;
+        out.previous_key[256] = KeyPlace(i);
+        out.length[k] = 0;
+        let root = ROUNDS + i;
+        let cell = root as usize;
+        out.next_index[cell] = ValuePlace(root);
+        out.previous_index[cell] = ValuePlace(root);
+        i += 1;
+        out.keys_len = i;
+        out.keys_fresh = i;
+    }
+    out
+}
+
+// The map with n rounds in the round places from 0 on, each at the back of the record of its member place.
+fn fill(m: ListOrderedMultimap, places: [u16; 1024], rounds: [u64; 1024], n: u16) -> ListOrderedMultimap
+    requires { ⌜ Fillable places n m ⌝ }
+    ensures { λ r. ⌜ Filled places rounds n m r ⌝ }
+{
+    let mut out = m;
+    let mut i: u16 = 0;
+    while i < n {
+        let q = i as usize;
+        let key = places[q];
+        let round = rounds[q];
+        let k = key as usize;
+        let last = out.previous_value[1024];
+        out.next_value[last.0 as usize] = ValuePlace(i);
+        out.next_value[q] = ValuePlace(ROUNDS);
+        out.previous_value[q] = last;
+        out.previous_value[1024] = ValuePlace(i);
+        out.values[q] = round;
+        out.key_index[q] = KeyPlace(key);
+        let root = ROUNDS + key;
+        let cell = root as usize;
+        let tail = out.previous_index[cell];
+        out.next_index[tail.0 as usize] = ValuePlace(i);
+        out.next_index[q] = ValuePlace(root);
+        out.previous_index[q] = tail;
+        out.previous_index[cell] = ValuePlace(i);
+        let held = out.length[k];
+        out.length[k] = held + 1;
+        i += 1;
+        out.values_len = i;
+        out.values_fresh = i;
+    }
+    out
+}
+
+// A refused reading.
+fn refuse(answer: Reading) -> Restored
+    ensures { λ r. ⌜ Refuses (r .map) × (r .answer ≡ answer) ⌝ }
+{
+    let map = multimap::new();
+    Restored { map, answer }
+}
+
+// The map of an image.
+pub fn read_image(s: &[u8]) -> Restored
+    ensures { λ r. ⌜ Reads (now (s .entry)) (readingOf (r .answer)) (r .map) ⌝ }
+{
+    if s.len() < 8 {
+        return refuse(Reading::TooShort);
+    }
+    let n = four(s, 0);
+    let m = four(s, 4);
+    if 1024 < n || 256 < m {
+        return refuse(Reading::TooMany);
+    }
+    let rounds = n as usize;
+    if s.len() != 8 + 16 * rounds {
+        return refuse(Reading::WrongLength);
+    }
+    let keys = read_numbers(&s[8..], rounds);
+    let values = read_numbers(&s[8 + 8 * rounds..], rounds);
+    let gathering = gather(&keys[..rounds]);
+    let count = gathering.count;
+    if count as u64 != m {
+        return refuse(Reading::WrongMembers);
+    }
+    let numbers = gathering.keys;
+    let index = gathering.index;
+    let places = gathering.places;
+    let lined = line_up(numbers, index, count);
+    let mut map = fill(lined, places, values, n as u16);
+    map.taken = n as u32;
+    Restored {
+        map,
+        answer: Reading::Done,
     }
 }

@@ -1,6 +1,7 @@
 pub mod Lists
 pub mod Walks
 pub mod Clears
+pub mod Turns
 pub mod Members
 pub mod Rounds
 pub mod Indexes
