@@ -4,3 +4,4 @@ pub mod Numbers
 pub mod Gathers
 pub mod Lines
 pub mod Fills
+pub mod Restores

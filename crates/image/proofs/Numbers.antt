@@ -1,11 +1,11 @@
 -- Numbers read from bytes: the laws of `four` and `eight`, and the turns of `read_numbers`. Assumes nothing.
-use Prim.Native.Nat.{ℕ, zero, suc, _+_, _*_, _≤_, _<_}
+use Prim.Native.Nat.{ℕ, zero, suc, _+_, _*_, _-_, _≤_, _<_}
 use mathlib.Core.Path.{_≡_, refl, sym, ap, _∙_}
 use mathlib.Core.List.{List, [], _∷_, _++_}
 use native.Mathlib.Omega.{arith}
 use native.Mathlib.Numerals.{add-one}
-use lib.ListN.{length, getD, set, take, drop, length-set}
-use lib.Seq.{getD-drop, drop-drop, take-suc-set}
+use lib.ListN.{length, getD, set, take, drop, length-set, length-drop}
+use lib.Seq.{getD-drop, drop-drop, take-suc-set, take-all}
 use Rattle.image.specs.Bytes.{number, numbers}
 
 number-none : (s : List ℕ) → number 0 s ≡ 0
@@ -46,6 +46,10 @@ module _ (s : List ℕ) where
         number-one 5 (p + 2) ∙ ap (λ (q : ℕ). getD s (p + 2) 0 + 256 * number 5 (drop q s)) f,
         number-one 4 (p + 3) ∙ ap (λ (q : ℕ). getD s (p + 3) 0 + 256 * number 4 (drop q s)) g,
       )
+
+-- the part of a slice that begins at p
+pub rest : (s : List ℕ) (p : ℕ) → take (length s - p) (drop p s) ≡ drop p s
+rest s p = take-all (length s - p) (drop p s) (omega (arith, length-drop p s))
 
 -- one number more
 pub numbers-more : (n : ℕ) (s : List ℕ) → numbers (suc n) s ≡ numbers n s ++ number 8 (drop (8 * n) s) ∷ []

@@ -252,7 +252,12 @@ fn line_up(keys: [u64; 256], index: [u16; 512], count: u16) -> ListOrderedMultim
 }
 
 // The map with n rounds in the round places from 0 on, each at the back of the record of its member place.
-fn fill(m: ListOrderedMultimap, places: [u16; 1024], rounds: [u64; 1024], n: u16) -> ListOrderedMultimap
+fn fill(
+    m: ListOrderedMultimap,
+    places: [u16; 1024],
+    rounds: [u64; 1024],
+    n: u16,
+) -> ListOrderedMultimap
     requires { ⌜ Fillable places n m ⌝ }
     ensures { λ r. ⌜ Filled places rounds n m r ⌝ }
 {

@@ -4,9 +4,6 @@ use Rattle.image.proofs.Numbers.{eight-is}
 use borrow.Author.Needs.{needs}
 use Rattle.image.proofs.eight.Statement.{statement}
 use Rattle.image.proofs.eight.Tie as tie
-use Rattle.image.proofs.eight.Reads as reads
-use Rattle.image.proofs.eight.Lts as lts
-use Rattle.image.proofs.four.Reads as four-reads
 
 four-requires : tie.Need-four-requires
 four-requires c κs = search needs

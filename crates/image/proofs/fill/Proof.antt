@@ -8,8 +8,6 @@ use Rattle.packing.proofs.Turns.{RoundFits}
 use Rattle.image.proofs.Fills.{Fill, fill-none, fill-one, fill-all, fits}
 use Rattle.image.proofs.fill.Statement.{statement}
 use Rattle.image.proofs.fill.Tie as tie
-use Rattle.image.proofs.fill.Reads as reads
-use Rattle.image.proofs.fill.Lts as lts
 
 abbrev Inv-loop : tie.InvT-loop
 Inv-loop n places rounds out₀ i₀ out i = Fill places rounds n out₀ i out

@@ -7,8 +7,6 @@ use Rattle.image.proofs.Numbers.{four-is}
 use borrow.Author.Needs.{needs}
 use Rattle.image.proofs.four.Statement.{statement}
 use Rattle.image.proofs.four.Tie as tie
-use Rattle.image.proofs.four.Reads as reads
-use Rattle.image.proofs.four.Lts as lts
 
 -- each byte is below 256
 small : (c : tie.After-shared-slice-known4)

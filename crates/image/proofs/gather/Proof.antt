@@ -9,12 +9,6 @@ use Rattle.image.specs.Members.{endOf}
 use Rattle.image.proofs.Gathers.{Gather, gather-none, gather-one, gather-many, gather-all, end-fits}
 use Rattle.image.proofs.gather.Statement.{statement}
 use Rattle.image.proofs.gather.Tie as tie
-use Rattle.image.proofs.gather.Reads as reads
-use Rattle.image.proofs.gather.Lts as lts
-use Rattle.image.proofs.ended_at.Reads as ended-at-reads
-use Rattle.image.proofs.place_of.Reads as place-of-reads
-use Rattle.index.proofs.empty.Reads as empty-reads
-use Rattle.index.proofs.find.Reads as find-reads
 
 abbrev Inv-loop : tie.InvT-loop
 Inv-loop numbers keys₀ index₀ places₀ count₀ i₀ keys index places count i = Gather numbers keys index places count i

@@ -8,8 +8,6 @@ use Rattle.multimap.specs.Map.{keyAt}
 use Rattle.image.proofs.Lines.{Line, line-none, line-one, line-all, Fits, fits}
 use Rattle.image.proofs.line_up.Statement.{statement}
 use Rattle.image.proofs.line_up.Tie as tie
-use Rattle.image.proofs.line_up.Reads as reads
-use Rattle.image.proofs.line_up.Lts as lts
 
 abbrev Inv-loop : tie.InvT-loop
 Inv-loop count out₀ i₀ out i = Line (out₀ .keys) (out₀ .index) count i out

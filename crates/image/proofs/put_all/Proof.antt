@@ -6,9 +6,6 @@ use lib.ListN.{length}
 use Rattle.image.proofs.Writes.{Puts, puts-none, puts-one, puts-all}
 use Rattle.image.proofs.put_all.Statement.{statement}
 use Rattle.image.proofs.put_all.Tie as tie
-use Rattle.image.proofs.put_all.Reads as reads
-use Rattle.image.proofs.put_all.Lts as lts
-use Rattle.image.proofs.put.Reads as put-reads
 
 abbrev Inv-loop : tie.InvT-loop
 Inv-loop out₀ at numbers i₀ out i = Puts out₀ at numbers out i

@@ -4,10 +4,6 @@ use Rattle.image.proofs.Writes.{laid}
 use borrow.Author.Needs.{needs}
 use Rattle.image.proofs.put_image.Statement.{statement}
 use Rattle.image.proofs.put_image.Tie as tie
-use Rattle.image.proofs.put_image.Reads as reads
-use Rattle.image.proofs.put_image.Lts as lts
-use Rattle.image.proofs.put.Reads as put-reads
-use Rattle.image.proofs.put_all.Reads as put-all-reads
 
 put-requires : tie.Need-put-requires
 put-requires c κs = search needs

@@ -5,9 +5,6 @@ use borrow.Author.Needs.{needs}
 use Rattle.image.proofs.Numbers.{Read, read-none, read-one, read-all}
 use Rattle.image.proofs.read_numbers.Statement.{statement}
 use Rattle.image.proofs.read_numbers.Tie as tie
-use Rattle.image.proofs.read_numbers.Reads as reads
-use Rattle.image.proofs.read_numbers.Lts as lts
-use Rattle.image.proofs.eight.Reads as eight-reads
 
 abbrev Inv-loop : tie.InvT-loop
 Inv-loop s n out₀ i₀ out i = Read s n out i

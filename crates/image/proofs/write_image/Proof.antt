@@ -10,10 +10,6 @@ use Rattle.image.proofs.Images.{iterated, many, write-short, write-done
 use borrow.Author.Needs.{needs}
 use Rattle.image.proofs.write_image.Statement.{statement}
 use Rattle.image.proofs.write_image.Tie as tie
-use Rattle.image.proofs.write_image.Reads as reads
-use Rattle.image.proofs.write_image.Lts as lts
-use Rattle.image.proofs.put_image.Reads as put-image-reads
-use Rattle.reading.proofs.iter.Reads as iter-reads
 
 -- what `iter` wrote
 module _ (i : tie.After-iter) where
