@@ -13,6 +13,7 @@ use lib.Seq.{drop-cons, getD-set-same, getD-set-other, set-getD}
 use Rattle.steps.specs.Lists.{any}
 use Rattle.links.proofs.Paths.{same-or-not}
 use Rattle.index.specs.Table.{Holds}
+use Rattle.index.specs.Search.{search as searched}
 use Rattle.index.specs.declared.Found.{Found}
 use Rattle.index.specs.declared.Found.the-variants.{At, Absent}
 use Rattle.index.specs.declared.KeyPlace.{KeyPlace}
