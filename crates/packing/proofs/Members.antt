@@ -6,17 +6,17 @@ use native.Mathlib.Omega.{arith}
 use borrow.Author.Count.{below-none, below-more}
 use lib.ListN.{length, getD, set, length-set}
 use lib.Seq.{getD-set-same, getD-set-other}
-use Rattle.links.specs.Places.{Places, put, order, Linked, pushed}
-use Rattle.links.proofs.Puts.{put-hit, put-miss}
+use Rattle.links.specs.Places.{Places, order, Linked}
 use Rattle.links.proofs.Bare.{bare-order, bare-linked}
-use Rattle.links.proofs.Lists.{length-order, last-in, at-most-root, pushed-linked}
-use Rattle.multimap.specs.Map.{at, keyAt, valueAt, membersOf}
+use Rattle.links.proofs.Lists.{length-order}
+use Rattle.multimap.specs.Map.{at, keyAt, membersOf}
 use Rattle.multimap.specs.declared.ListOrderedMultimap.{ListOrderedMultimap}
-use Rattle.multimap.proofs.Stores.{key-set₂, value-set, Sized, places-eq}
+use Rattle.multimap.proofs.Stores.{Sized}
 use Rattle.packing.specs.Moves.{EmptyRecord, MembersMoved, SameRounds}
 use Rattle.packing.proofs.Lists.{nth-apart}
-use Rattle.packing.proofs.Walks.{walk-first, walk-once, walk-few, walk-nth, walk-fits, walk-next, pushed-up, order-up}
+use Rattle.packing.proofs.Walks.{walk-first, walk-once, walk-few, walk-nth, walk-fits, walk-next}
 use Rattle.packing.proofs.Clears.{key-end}
+use Rattle.packing.proofs.Turns.{MembersUp, joined, last-member, member-up, empty-new, empty-old, joined-sized}
 
 -- after i turns: i members are moved, and the walk along the old list is at the next one
 pub record MembersTurned (keys old : List ℕ) (o₀ : ListOrderedMultimap) (i x : ℕ) (places : List ℕ) (o : ListOrderedMultimap) : Type 0 where
@@ -110,78 +110,24 @@ module _ (m : ListOrderedMultimap) (g : Linked (membersOf m)) where
     new-fits : i < 256
     new-fits = omega (arith, more, walk-few l g)
 
-    last-fits : keyAt (o .«previous_key») 256 < 257
-    last-fits = omega (arith, at-most-root (membersOf o) (t .moved .linked) (keyAt (o .«previous_key») 256) (last-in (membersOf o) (t .moved .linked)))
+    up : MembersUp o i
+    up = record { linked = t .moved .linked; order = t .moved .members; len = t .moved .len; fresh = t .moved .fresh }
 
     old-fits : x < 256
     old-fits = walk-fits l g i x more (t .here)
 
-    pub fits : Fits x i (keyAt (o .«previous_key») 256)
-    fits = record { old = old-fits; new = new-fits; back = last-fits }
-
-    abbrev last : ℕ
-    last = keyAt (o .«previous_key») 256
-
     abbrev member : ℕ
     member = at (m .keys) x
 
-    -- the stores of a turn
-    abbrev pub joined : ListOrderedMultimap
-    joined =
-        record {
-          keys = set (o .keys) i member;
-          length = set (o .length) i 0;
-          «next_key» = set (set (o .«next_key») last (record { 0 = i })) i (record { 0 = 256 });
-          «previous_key» = set (set (o .«previous_key») i (record { 0 = last })) 256 (record { 0 = i });
-          values = o .values;
-          «key_index» = o .«key_index»;
-          «next_value» = o .«next_value»;
-          «previous_value» = o .«previous_value»;
-          «next_index» = set (o .«next_index») (1024 + i) (record { 0 = 1024 + i });
-          «previous_index» = set (o .«previous_index») (1024 + i) (record { 0 = 1024 + i });
-          index = o .index;
-          «keys_len» = i + 1;
-          «keys_fresh» = i + 1;
-          «keys_free» = o .«keys_free»;
-          «values_len» = o .«values_len»;
-          «values_fresh» = o .«values_fresh»;
-          «values_free» = o .«values_free»;
-          taken = o .taken;
-        }
+    -- the member numbers with this one
+    abbrev keys : List ℕ
+    keys = set (o .keys) i member
 
-    links : membersOf joined ≡ pushed (membersOf o)
-    links =
-        places-eq (membersOf joined) _
-        (key-set₂ (o .«next_key») last (record { 0 = i }) i (record { 0 = 256 }) 257 (t .sized .next-key) last-fits (omega (arith, new-fits)))
-        (key-set₂ (o .«previous_key») i (record { 0 = last }) 256 (record { 0 = i }) 257 (t .sized .previous-key) (omega (arith, new-fits)) (omega arith))
-        refl refl refl refl
-        ∙ sym (pushed-up (membersOf o) i (t .moved .len) (t .moved .fresh))
+    pub fits : Fits x i (keyAt (o .«previous_key») 256)
+    fits = record { old = old-fits; new = new-fits; back = last-member o keys i (t .sized) up new-fits }
 
-    number-new : at (set (o .keys) i member) i ≡ at (m .keys) (getD old i 0)
+    number-new : at keys i ≡ at (m .keys) (getD old i 0)
     number-new = getD-set-same (o .keys) i member 0 (rw (t .sized .keys) new-fits) ∙ ap (at (m .keys)) (walk-nth l g i x more (t .here))
-
-    next-at : (q : ℕ) → valueAt (joined .«next_index») q ≡ put (valueAt (o .«next_index»)) (1024 + i) (1024 + i) q
-    next-at q = ap (λ (f : ℕ → ℕ). f q) (value-set (o .«next_index») (1024 + i) (record { 0 = 1024 + i }) (rw (t .sized .next-index) (omega (arith, new-fits))))
-
-    prev-at : (q : ℕ) → valueAt (joined .«previous_index») q ≡ put (valueAt (o .«previous_index»)) (1024 + i) (1024 + i) q
-    prev-at q = ap (λ (f : ℕ → ℕ). f q) (value-set (o .«previous_index») (1024 + i) (record { 0 = 1024 + i }) (rw (t .sized .previous-index) (omega (arith, new-fits))))
-
-    empty-new : EmptyRecord joined i
-    empty-new =
-        record {
-          head = next-at (1024 + i) ∙ put-hit (valueAt (o .«next_index»)) (1024 + i) (1024 + i) (1024 + i) refl;
-          tail = prev-at (1024 + i) ∙ put-hit (valueAt (o .«previous_index»)) (1024 + i) (1024 + i) (1024 + i) refl;
-          size = getD-set-same (o .length) i 0 0 (rw (t .sized .lengths) new-fits);
-        }
-
-    empty-old : (k : ℕ) → k < i → EmptyRecord joined k
-    empty-old k h =
-        let e = t .moved .empty k h in
-        record {
-          head = next-at (1024 + k) ∙ put-miss (valueAt (o .«next_index»)) (1024 + i) (1024 + i) (1024 + k) (λ z. omega arith) ∙ e .head;
-          tail = prev-at (1024 + k) ∙ put-miss (valueAt (o .«previous_index»)) (1024 + i) (1024 + i) (1024 + k) (λ z. omega arith) ∙ e .tail;
-          size = getD-set-other (o .length) i k 0 0 (λ z. omega arith) ∙ e .size;
-        }
 
     place-old : (k : ℕ) → k < i → at (set places x i) (getD old k 0) ≡ k
     place-old k h =
@@ -189,36 +135,27 @@ module _ (m : ListOrderedMultimap) (g : Linked (membersOf m)) where
         (λ e. nth-apart old k i 0 (walk-once l g) h (rw (length-order l) more) (e ∙ walk-nth l g i x more (t .here)))
         ∙ t .moved .place k h
 
-    pub members-more : (y : ℕ) → y ≡ keyAt (m .«next_key») x → MembersTurned (m .keys) (order (membersOf m)) o₀ (i + 1) y (set places x i) joined
+    pub members-more : (y : ℕ) → y ≡ keyAt (m .«next_key») x
+        → MembersTurned (m .keys) (order (membersOf m)) o₀ (i + 1) y (set places x i) (joined o (set (o .keys) i (at (m .keys) x)) i)
     members-more y e =
+        let next = member-up o keys i (t .sized) up new-fits in
         record {
           some = rw (length-order l) (omega arith);
           here = e ∙ walk-next l g i x more (t .here);
-          sized =
-              record {
-                keys = length-set (o .keys) i member ∙ t .sized .keys;
-                lengths = length-set (o .length) i 0 ∙ t .sized .lengths;
-                next-key = simp length-set (t .sized .next-key);
-                previous-key = simp length-set (t .sized .previous-key);
-                values = t .sized .values;
-                key-index = t .sized .key-index;
-                next-value = t .sized .next-value;
-                previous-value = t .sized .previous-value;
-                next-index = simp length-set (t .sized .next-index);
-                previous-index = simp length-set (t .sized .previous-index);
-                index = t .sized .index;
-              };
+          sized = joined-sized o keys i (t .sized) up new-fits (length-set (o .keys) i member ∙ t .sized .keys);
           size = length-set places x i ∙ t .size;
           moved =
               record {
-                linked = subst Linked (sym links) (pushed-linked (membersOf o) (t .moved .linked) (rw (t .moved .len) new-fits));
-                members = ap order links ∙ order-up (membersOf o) i (t .moved .len) (t .moved .fresh) (t .moved .linked) new-fits (t .moved .members);
+                linked = next .linked;
+                members = next .order;
                 len = refl;
                 fresh = refl;
                 number =
-                    below-more (λ k. at (set (o .keys) i member) k ≡ at (m .keys) (getD old k 0)) i
+                    below-more (λ k. at keys k ≡ at (m .keys) (getD old k 0)) i
                     (λ k h. getD-set-other (o .keys) i k member 0 (λ z. omega arith) ∙ t .moved .number k h) number-new;
-                empty = below-more (EmptyRecord joined) i empty-old empty-new;
+                empty =
+                    below-more (EmptyRecord (joined o keys i)) i (λ k h. empty-old o keys i (t .sized) up new-fits k h (t .moved .empty k h))
+                    (empty-new o keys i (t .sized) up new-fits);
                 place =
                     below-more (λ k. at (set places x i) (getD old k 0) ≡ k) i place-old
                     (ap (at (set places x i)) (sym (walk-nth l g i x more (t .here))) ∙ getD-set-same places x i 0 (rw (t .size) old-fits));
