@@ -6,7 +6,7 @@ use native.Mathlib.Omega.{arith}
 use borrow.Author.Count.{below-none, below-more}
 use lib.ListN.{length}
 use Rattle.links.specs.Path.{count}
-use Rattle.links.specs.Places.{Places, order}
+use Rattle.links.specs.Places.{order}
 use Rattle.multimap.specs.Map.{at, keyAt, valueAt, membersOf}
 use Rattle.multimap.specs.declared.ListOrderedMultimap.{ListOrderedMultimap}
 use Rattle.multimap.proofs.Stores.{Sized}

@@ -1,6 +1,6 @@
 -- The turns of `gather`: the numbers of a list become members one after the other. Assumes nothing.
-use Prim.Native.Nat.{ℕ, suc, _+_, _≤_, _<_}
-use mathlib.Core.Path.{_≡_, refl, sym, ap, _∙_, subst}
+use Prim.Native.Nat.{ℕ, _+_, _≤_, _<_}
+use mathlib.Core.Path.{_≡_, refl, sym, ap, _∙_}
 use mathlib.Core.Logic.{_≢_, ⊎-elim}
 use mathlib.Core.Bool.{Bool, true, false, cond}
 use mathlib.Core.List.{List, [], _∷_, _++_, map, List·Memᴰ, List·Memᴰ·cases-cons, List·Memᴰ·head, List·Memᴰ·tail}
@@ -24,7 +24,7 @@ use Rattle.multimap.specs.Map.{at}
 use Rattle.multimap.proofs.Stores.{any-some, any-none, map-same, map-append, mem-count, count-mem}
 use Rattle.packing.specs.Moves.{upTo}
 use Rattle.packing.proofs.Lists.{up-more, length-up, below-in, in-below}
-use Rattle.image.specs.Members.{placeOr, endOf, distinct, Seated, Gathered}
+use Rattle.image.specs.Members.{placeOr, endOf, distinct, Gathered}
 
 -- ---- the distinct numbers of a list
 

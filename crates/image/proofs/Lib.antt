@@ -5,3 +5,6 @@ pub mod Gathers
 pub mod Lines
 pub mod Fills
 pub mod Restores
+pub mod Back
+pub mod Distinct
+pub mod Theorems

@@ -1,10 +1,9 @@
 -- The turns of `line_up`: member places with empty records. Assumes nothing.
 use Prim.Native.Nat.{ℕ, _+_, _≤_, _<_}
-use mathlib.Core.Path.{_≡_, refl, subst, ap, _∙_}
+use mathlib.Core.Path.{_≡_, refl, ap, _∙_}
 use mathlib.Core.List.{List}
 use native.Mathlib.Omega.{arith}
 use borrow.Author.Count.{below-none, below-more}
-use lib.ListN.{length}
 use Rattle.links.specs.Places.{order, Linked}
 use Rattle.links.proofs.Bare.{bare-order, bare-linked}
 use Rattle.multimap.specs.Map.{keyAt, valueAt, roundsOf, membersOf}

@@ -1,8 +1,8 @@
 -- What `read_image` gives is what the definition says. Assumes nothing.
-use Prim.Native.Nat.{ℕ, zero, suc, _+_, _*_, _≤_, _<_}
+use Prim.Native.Nat.{ℕ, suc, _+_, _*_, _≤_, _<_}
 use mathlib.Core.Path.{_≡_, refl, sym, ap, _∙_, subst}
 use mathlib.Core.Logic.{_≢_, ⊎-elim}
-use mathlib.Core.Bool.{Bool, true, false, cond, not, _||_}
+use mathlib.Core.Bool.{Bool, true, false, cond, _||_}
 use mathlib.Core.List.{List, [], _∷_, _++_, map}
 use native.Mathlib.Omega.{arith}
 use borrow.Author.Tests.{eq-eqb, ne-eqb, lt-ltb, le-ltb}
@@ -94,7 +94,7 @@ module _ (s : List ℕ) where
   read-members h e f n =
       rw (le-ltb (length s) 8 h, e, eq-eqb (length s) (8 + 16 * roundsSaid s) f, ne-eqb (membersSaid s) (length (firsts [] (pairsIn s))) n)
 
-  read-whole : 8 ≤ length s → (ltb 1024 (roundsSaid s) || ltb 256 (membersSaid s)) ≡ false → length s ≡ 8 + 16 * roundsSaid s
+  pub read-whole : 8 ≤ length s → (ltb 1024 (roundsSaid s) || ltb 256 (membersSaid s)) ≡ false → length s ≡ 8 + 16 * roundsSaid s
       → membersSaid s ≡ length (firsts [] (pairsIn s)) → readOf s ≡ (done, start (pairsIn s))
   unfolding readOf reading
   read-whole h e f n =

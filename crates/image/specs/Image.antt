@@ -1,5 +1,6 @@
 -- The image of a map (document 01, module 7): what is written, and which images are read as which state.
-use Prim.Native.Nat.{ℕ, _+_, _*_}
+use Prim.Native.Nat.{ℕ, _+_, _*_, _≤_}
+use mathlib.Core.Path.{_≡_}
 use mathlib.Core.Bool.{not, _||_}
 use mathlib.Core.List.{List, [], _∷_, map}
 use mathlib.Core.Option.{Option, some}
@@ -65,3 +66,11 @@ restored Opt.none s = (done, start (pairsIn s))
 
 unfoldable pub readOf : List ℕ → Answer × State
 readOf s = restored (refusal (reading s)) s
+
+-- the images that reading accepts
+pub record Accepted (s : List ℕ) : Type 0 where
+  pub enough : 8 ≤ length s
+  pub rounds : roundsSaid s ≤ maxRounds
+  pub members : membersSaid s ≤ maxMembers
+  pub long : length s ≡ 8 + 16 * roundsSaid s
+  pub counted : membersSaid s ≡ length (firsts [] (pairsIn s))

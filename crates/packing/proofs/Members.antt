@@ -6,19 +6,17 @@ use native.Mathlib.Omega.{arith}
 use borrow.Author.Count.{below-none, below-more}
 use lib.ListN.{length, getD, set, length-set}
 use lib.Seq.{getD-set-same, getD-set-other}
-use Rattle.links.specs.Places.{Places, put, order, Linked, pushed}
-use Rattle.links.specs.Links.{Links}
-use Rattle.links.proofs.Puts.{put-hit, put-miss}
+use Rattle.links.specs.Places.{Places, order, Linked}
 use Rattle.links.proofs.Bare.{bare-order, bare-linked}
-use Rattle.links.proofs.Lists.{length-order, order-distinct, last-fits, pushed-linked}
-use Rattle.multimap.specs.Map.{at, keyAt, valueAt, membersOf, linksOf}
+use Rattle.links.proofs.Lists.{order-distinct, length-order}
+use Rattle.multimap.specs.Map.{at, keyAt, membersOf}
 use Rattle.multimap.specs.declared.ListOrderedMultimap.{ListOrderedMultimap}
 use Rattle.multimap.proofs.Stores.{Sized}
-use Rattle.multimap.proofs.Additions.{with-member, member-links, member-stored}
 use Rattle.packing.specs.Moves.{EmptyRecord, MembersMoved, SameRounds}
 use Rattle.packing.proofs.Lists.{nth-apart}
-use Rattle.packing.proofs.Walks.{walk-first, walk-few, walk-nth, walk-fits, walk-next, pushed-up, order-up}
+use Rattle.packing.proofs.Walks.{walk-first, walk-few, walk-nth, walk-fits, walk-next}
 use Rattle.packing.proofs.Clears.{key-end}
+use Rattle.packing.proofs.Turns.{MembersUp, joined, last-member, member-up, empty-new, empty-old, joined-sized}
 
 -- after i turns: i members are moved, and the walk along the old list is at the next one
 pub record MembersTurned (keys old : List ℕ) (o₀ : ListOrderedMultimap) (i x : ℕ) (places : List ℕ) (o : ListOrderedMultimap) : Type 0 where
@@ -112,53 +110,24 @@ module _ (m : ListOrderedMultimap) (g : Linked (membersOf m)) where
     new-fits : i < 256
     new-fits = omega (arith, more, walk-few l g)
 
-    back-fits : keyAt (o .«previous_key») 256 < 257
-    back-fits = omega (arith, last-fits (membersOf o) (t .moved .linked))
+    up : MembersUp o i
+    up = record { linked = t .moved .linked; order = t .moved .members; len = t .moved .len; fresh = t .moved .fresh }
 
     old-fits : x < 256
     old-fits = walk-fits l g i x more (t .here)
 
-    pub fits : Fits x i (keyAt (o .«previous_key») 256)
-    fits = record { old = old-fits; new = new-fits; back = back-fits }
-
     abbrev member : ℕ
     member = at (m .keys) x
 
-    -- the stores of a turn
-    abbrev pub joined : ListOrderedMultimap
-    joined = with-member o i member (i + 1) (i + 1) (o .«keys_free») (o .index)
+    -- the member numbers with this one
+    abbrev keys : List ℕ
+    keys = set (o .keys) i member
 
-    stored : linksOf joined ≡ member-links o i member (i + 1) (i + 1) (o .«keys_free») (o .index)
-    stored = member-stored o i member (i + 1) (i + 1) (o .«keys_free») (o .index) (t .sized) new-fits (last-fits (membersOf o) (t .moved .linked))
+    pub fits : Fits x i (keyAt (o .«previous_key») 256)
+    fits = record { old = old-fits; new = new-fits; back = last-member o keys i (t .sized) up new-fits }
 
-    links : membersOf joined ≡ pushed (membersOf o)
-    links = ap (λ (c : Links). c .members) stored ∙ sym (pushed-up (membersOf o) i (t .moved .len) (t .moved .fresh))
-
-    number-new : at (set (o .keys) i member) i ≡ at (m .keys) (getD old i 0)
+    number-new : at keys i ≡ at (m .keys) (getD old i 0)
     number-new = getD-set-same (o .keys) i member 0 (rw (t .sized .keys) new-fits) ∙ ap (at (m .keys)) (walk-nth l g i x more (t .here))
-
-    next-at : (q : ℕ) → valueAt (joined .«next_index») q ≡ put (valueAt (o .«next_index»)) (1024 + i) (1024 + i) q
-    next-at q = ap (λ (c : Links). c .next q) stored
-
-    prev-at : (q : ℕ) → valueAt (joined .«previous_index») q ≡ put (valueAt (o .«previous_index»)) (1024 + i) (1024 + i) q
-    prev-at q = ap (λ (c : Links). c .prev q) stored
-
-    empty-new : EmptyRecord joined i
-    empty-new =
-        record {
-          head = next-at (1024 + i) ∙ put-hit (valueAt (o .«next_index»)) (1024 + i) (1024 + i) (1024 + i) refl;
-          tail = prev-at (1024 + i) ∙ put-hit (valueAt (o .«previous_index»)) (1024 + i) (1024 + i) (1024 + i) refl;
-          size = getD-set-same (o .length) i 0 0 (rw (t .sized .lengths) new-fits);
-        }
-
-    empty-old : (k : ℕ) → k < i → EmptyRecord joined k
-    empty-old k h =
-        let e = t .moved .empty k h in
-        record {
-          head = next-at (1024 + k) ∙ put-miss (valueAt (o .«next_index»)) (1024 + i) (1024 + i) (1024 + k) (λ z. omega arith) ∙ e .head;
-          tail = prev-at (1024 + k) ∙ put-miss (valueAt (o .«previous_index»)) (1024 + i) (1024 + i) (1024 + k) (λ z. omega arith) ∙ e .tail;
-          size = getD-set-other (o .length) i k 0 0 (λ z. omega arith) ∙ e .size;
-        }
 
     place-old : (k : ℕ) → k < i → at (set places x i) (getD old k 0) ≡ k
     place-old k h =
@@ -166,36 +135,27 @@ module _ (m : ListOrderedMultimap) (g : Linked (membersOf m)) where
         (λ e. nth-apart old k i 0 (order-distinct l g) h (rw (length-order l) more) (e ∙ walk-nth l g i x more (t .here)))
         ∙ t .moved .place k h
 
-    pub members-more : (y : ℕ) → y ≡ keyAt (m .«next_key») x → MembersTurned (m .keys) (order (membersOf m)) o₀ (i + 1) y (set places x i) joined
+    pub members-more : (y : ℕ) → y ≡ keyAt (m .«next_key») x
+        → MembersTurned (m .keys) (order (membersOf m)) o₀ (i + 1) y (set places x i) (joined o (set (o .keys) i (at (m .keys) x)) i)
     members-more y e =
+        let next = member-up o keys i (t .sized) up new-fits in
         record {
           some = rw (length-order l) (omega arith);
           here = e ∙ walk-next l g i x more (t .here);
-          sized =
-              record {
-                keys = length-set (o .keys) i member ∙ t .sized .keys;
-                lengths = length-set (o .length) i 0 ∙ t .sized .lengths;
-                next-key = simp length-set (t .sized .next-key);
-                previous-key = simp length-set (t .sized .previous-key);
-                values = t .sized .values;
-                key-index = t .sized .key-index;
-                next-value = t .sized .next-value;
-                previous-value = t .sized .previous-value;
-                next-index = simp length-set (t .sized .next-index);
-                previous-index = simp length-set (t .sized .previous-index);
-                index = t .sized .index;
-              };
+          sized = joined-sized o keys i (t .sized) up new-fits (length-set (o .keys) i member ∙ t .sized .keys);
           size = length-set places x i ∙ t .size;
           moved =
               record {
-                linked = subst Linked (sym links) (pushed-linked (membersOf o) (t .moved .linked) (rw (t .moved .len) new-fits));
-                members = ap order links ∙ order-up (membersOf o) i (t .moved .len) (t .moved .fresh) (t .moved .linked) new-fits (t .moved .members);
+                linked = next .linked;
+                members = next .order;
                 len = refl;
                 fresh = refl;
                 number =
-                    below-more (λ k. at (set (o .keys) i member) k ≡ at (m .keys) (getD old k 0)) i
+                    below-more (λ k. at keys k ≡ at (m .keys) (getD old k 0)) i
                     (λ k h. getD-set-other (o .keys) i k member 0 (λ z. omega arith) ∙ t .moved .number k h) number-new;
-                empty = below-more (EmptyRecord joined) i empty-old empty-new;
+                empty =
+                    below-more (EmptyRecord (joined o keys i)) i (λ k h. empty-old o keys i (t .sized) up new-fits k h (t .moved .empty k h))
+                    (empty-new o keys i (t .sized) up new-fits);
                 place =
                     below-more (λ k. at (set places x i) (getD old k 0) ≡ k) i place-old
                     (ap (at (set places x i)) (sym (walk-nth l g i x more (t .here))) ∙ getD-set-same places x i 0 (rw (t .size) old-fits));

@@ -4,23 +4,18 @@ use mathlib.Core.Path.{_≡_, refl, sym, ap, _∙_, subst}
 use mathlib.Core.List.{List, []}
 use native.Mathlib.Omega.{arith}
 use borrow.Author.Count.{below-none, below-more}
-use borrow.Author.Tests.{eq-eqb}
 use lib.ListN.{length, getD, set, length-set}
-use lib.Seq.{getD-set-same, getD-set-other}
 use Rattle.links.specs.Path.{count}
-use Rattle.links.specs.Places.{Places, put, order}
-use Rattle.links.specs.Links.{Links, base, Chained, added}
-use Rattle.links.proofs.Puts.{put-hit, put-miss}
+use Rattle.links.specs.Places.{Places, order}
 use Rattle.links.proofs.Bare.{bare-order, bare-linked}
-use Rattle.links.proofs.Lists.{length-order, in-array, last-fits}
-use Rattle.links.proofs.Chains.{added-chained, tail-fits, size-in}
-use Rattle.multimap.specs.Map.{at, keyAt, valueAt, roundsOf, membersOf, linksOf}
+use Rattle.links.proofs.Lists.{length-order}
+use Rattle.multimap.specs.Map.{at, keyAt, valueAt, roundsOf, membersOf}
 use Rattle.multimap.specs.declared.ListOrderedMultimap.{ListOrderedMultimap}
-use Rattle.multimap.proofs.Stores.{key-set, Sized}
-use Rattle.multimap.proofs.Additions.{with-round, round-stored}
+use Rattle.multimap.proofs.Stores.{Sized}
 use Rattle.packing.specs.Moves.{Movable, RoundsMoved, SameMembers}
-use Rattle.packing.proofs.Walks.{walk-first, walk-few, walk-nth, walk-in, walk-fits, walk-next, order-up}
+use Rattle.packing.proofs.Walks.{walk-first, walk-few, walk-nth, walk-in, walk-fits, walk-next}
 use Rattle.packing.proofs.Clears.{value-end}
+use Rattle.packing.proofs.Turns.{RoundsUp, stored, round-fits, round-up, key-new, key-old, value-new, value-old, stored-sized}
 
 -- after i turns: i rounds are moved, and the walk along the old list is at the next one
 pub record RoundsTurned (values : List ℕ) (key : ℕ → ℕ) (old : List ℕ) (o₀ : ListOrderedMultimap) (i x : ℕ) (o : ListOrderedMultimap) : Type 0 where
@@ -39,26 +34,6 @@ pub record Fits (x i last old new tail size : ℕ) : Type 0 where
   pub place : new < 256
   pub end : tail < 1280
   pub held : size < 1024
-
--- a round of k is added where the places from 0 on are in use and no other ever was
-added-up : (c : Links) (k i : ℕ) → c .rounds .len ≡ i → c .rounds .fresh ≡ i
-    → added c k
-    ≡ record {
-      rounds = record {
-        next = put (put (c .rounds .next) (c .rounds .prev (c .rounds .root)) i) i (c .rounds .root);
-        prev = put (put (c .rounds .prev) i (c .rounds .prev (c .rounds .root))) (c .rounds .root) i;
-        root = c .rounds .root;
-        len = i + 1;
-        fresh = i + 1;
-        free = c .rounds .free;
-      };
-      members = c .members;
-      key = put (c .key) i k;
-      next = put (put (c .next) (c .prev (base c k)) i) i (base c k);
-      prev = put (put (c .prev) i (c .prev (base c k))) (base c k) i;
-      size = put (c .size) k (c .size k + 1);
-    }
-added-up c k i e f = rw (eq-eqb (c .rounds .len) (c .rounds .fresh) (e ∙ sym f), e, f)
 
 module _ (m : ListOrderedMultimap) (places : List ℕ) (h : Movable m places) where
   abbrev l : Places
@@ -149,11 +124,11 @@ module _ (m : ListOrderedMultimap) (places : List ℕ) (h : Movable m places) wh
     abbrev key : ℕ
     key = new x
 
-    abbrev last : ℕ
-    last = valueAt (o .«previous_value») 1024
+    abbrev v : ℕ
+    v = at (m .values) x
 
-    abbrev tail : ℕ
-    tail = valueAt (o .«previous_index») (1024 + key)
+    up : RoundsUp o i
+    up = record { chained = t .moved .chained; order = t .moved .rounds; len = t .moved .len; fresh = t .moved .fresh }
 
     here : 0 < count key (order (membersOf o))
     here = subst (λ (w : Places). 0 < count key (order w)) (sym (t .same .members)) (h .new x (walk-in l (h .rounds) i x more (t .here)))
@@ -161,83 +136,46 @@ module _ (m : ListOrderedMultimap) (places : List ℕ) (h : Movable m places) wh
     to-fits : i < 1024
     to-fits = omega (arith, more, walk-few l (h .rounds))
 
-    back-fits : last < 1025
-    back-fits = omega (arith, last-fits (roundsOf o) (t .moved .chained .rounds))
-
-    place-fits : key < 256
-    place-fits = in-array (membersOf o) (t .moved .chained .members) key here
-
-    end-fits : tail < 1280
-    end-fits = tail-fits (linksOf o) (t .moved .chained) key 256 here place-fits
-
     pub fits : Fits x i (valueAt (o .«previous_value») 1024) (keyAt (m .«key_index») x) (at places (keyAt (m .«key_index») x))
         (valueAt (o .«previous_index») (1024 + at places (keyAt (m .«key_index») x))) (at (o .length) (at places (keyAt (m .«key_index») x)))
     fits =
+        let f = round-fits o i key v up to-fits here in
         record {
           from = walk-fits l (h .rounds) i x more (t .here);
           to = to-fits;
-          back = back-fits;
+          back = f .back;
           member = h .old x (walk-in l (h .rounds) i x more (t .here));
-          place = place-fits;
-          end = end-fits;
-          held = omega (arith, size-in (linksOf o) (t .moved .chained) key here, length-order (roundsOf o), t .moved .len, to-fits);
+          place = f .place;
+          end = f .end;
+          held = f .held;
         }
-
-    -- the stores of a turn
-    abbrev pub stored : ListOrderedMultimap
-    stored = with-round o i key (at (m .values) x) (i + 1) (i + 1) (o .«values_free») (o .taken)
-
-    links : linksOf stored ≡ added (linksOf o) key
-    links =
-        round-stored o i key (at (m .values) x) (i + 1) (i + 1) (o .«values_free») (o .taken) (t .sized) to-fits place-fits
-        (last-fits (roundsOf o) (t .moved .chained .rounds)) end-fits
-        ∙ sym (added-up (linksOf o) key i (t .moved .len) (t .moved .fresh))
-
-    key-at : (q : ℕ) → keyAt (stored .«key_index») q ≡ put (keyAt (o .«key_index»)) i key q
-    key-at q = ap (λ (f : ℕ → ℕ). f q) (key-set (o .«key_index») i (record { 0 = key }) (rw (t .sized .key-index) to-fits))
 
     nth : x ≡ getD old i 0
     nth = walk-nth l (h .rounds) i x more (t .here)
 
-    room : o .«values_len» < 1024
-    room = rw (t .moved .len) to-fits
-
     pub rounds-more : (y : ℕ) → y ≡ valueAt (m .«next_value») x
-        → RoundsTurned (m .values) (λ q. at places (keyAt (m .«key_index») q)) (order (roundsOf m)) roundless (i + 1) y stored
+        → RoundsTurned (m .values) (λ q. at places (keyAt (m .«key_index») q)) (order (roundsOf m)) roundless (i + 1) y
+        (stored o i (at places (keyAt (m .«key_index») x)) (at (m .values) x))
     rounds-more y e =
+        let next = round-up o i key v up to-fits here (t .sized) in
         record {
           some = rw (length-order l) (omega arith);
           here = e ∙ walk-next l (h .rounds) i x more (t .here);
-          sized =
-              record {
-                keys = t .sized .keys;
-                lengths = simp length-set (t .sized .lengths);
-                next-key = t .sized .next-key;
-                previous-key = t .sized .previous-key;
-                values = simp length-set (t .sized .values);
-                key-index = simp length-set (t .sized .key-index);
-                next-value = simp length-set (t .sized .next-value);
-                previous-value = simp length-set (t .sized .previous-value);
-                next-index = simp length-set (t .sized .next-index);
-                previous-index = simp length-set (t .sized .previous-index);
-                index = t .sized .index;
-              };
+          sized = stored-sized o i key v up to-fits here (t .sized);
           moved =
               record {
-                chained = subst Chained (sym links) (added-chained (linksOf o) (t .moved .chained) key here room);
-                rounds =
-                    ap (λ (c : Links). order (c .rounds)) links
-                    ∙ order-up (roundsOf o) i (t .moved .len) (t .moved .fresh) (t .moved .chained .rounds) to-fits (t .moved .rounds);
+                chained = next .chained;
+                rounds = next .order;
                 len = refl;
                 fresh = refl;
                 value =
-                    below-more (λ q. at (set (o .values) i (at (m .values) x)) q ≡ at (m .values) (getD old q 0)) i
-                    (λ q j. getD-set-other (o .values) i q (at (m .values) x) 0 (λ z. omega arith) ∙ t .moved .value q j)
-                    (getD-set-same (o .values) i (at (m .values) x) 0 (rw (t .sized .values) to-fits) ∙ ap (at (m .values)) nth);
+                    below-more (λ q. at (stored o i key v .values) q ≡ at (m .values) (getD old q 0)) i
+                    (λ q j. value-old o i key v up to-fits here (t .sized) q j ∙ t .moved .value q j)
+                    (value-new o i key v up to-fits here (t .sized) ∙ ap (at (m .values)) nth);
                 member =
-                    below-more (λ q. keyAt (stored .«key_index») q ≡ new (getD old q 0)) i
-                    (λ q j. key-at q ∙ put-miss (keyAt (o .«key_index»)) i key q (λ z. omega arith) ∙ t .moved .member q j)
-                    (key-at i ∙ put-hit (keyAt (o .«key_index»)) i key i refl ∙ ap new nth);
+                    below-more (λ q. keyAt (stored o i key v .«key_index») q ≡ new (getD old q 0)) i
+                    (λ q j. key-old o i key v up to-fits here (t .sized) q j ∙ t .moved .member q j)
+                    (key-new o i key v up to-fits here (t .sized) ∙ ap new nth);
               };
           same = record { members = t .same .members; keys = t .same .keys; taken = t .same .taken };
         }
