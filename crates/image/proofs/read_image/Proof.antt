@@ -33,7 +33,7 @@ module _ (e : tie.Else4) where
         enough = four .before .if1 .left;
         rounds = four .four .ensures .0;
         members = e .before .before .before .four2 .ensures .0;
-        few = e .before .before .if2 .left;
+        few = omega (arith, e .before .before .if2 .left);
         few-members = ltb-false _ _ (e .before .if3 .left);
         long = e .if4 .left;
       }

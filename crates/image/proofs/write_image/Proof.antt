@@ -35,7 +35,7 @@ module _ (i : tie.After-iter) where
   rounds-many = many m (s .pre) ℕ (λ p. p .value) us (told .1)
 
   room : 8 + 16 * m .«values_len» ≤ length (s .args .out .now)
-  room = i .before .before .before .before .if1 .left
+  room = omega (arith, i .before .before .before .before .if1 .left)
 
 cast-n : tie.Need-cast-n
 cast-n c = search needs
