@@ -1,0 +1,35 @@
+-- `lines::answer_line` meets its contract. Assumes nothing.
+use Prim.Native.Nat.{_≤_}
+use native.Mathlib.Omega.{arith}
+use lib.ListN.{length}
+use Rattle.lines.proofs.Calls.{ended-bytes, ended-count, ended-room, ended-most}
+use borrow.Author.Needs.{needs}
+use Rattle.lines.proofs.answer_line.Statement.{statement}
+use Rattle.lines.proofs.answer_line.Tie as tie
+use Rattle.lines.proofs.answer_line.Reads as reads
+use Rattle.lines.proofs.answer_line.Lts as lts
+use Rattle.lines.proofs.calling.ask.Reads as ask-reads
+use Rattle.parsing.proofs.parse.Reads as parse-reads
+
+parse-requires : tie.Need-parse-requires
+parse-requires c κs = search needs
+
+ask-requires : tie.Need-ask-requires
+ask-requires c κs = search needs
+
+element-write-out : tie.Need-element-write-out
+element-write-out c = search needs
+
+add-next : tie.Need-add-next
+add-next c = search needs
+
+returns : tie.Need-returns
+returns c =
+    let a = c .before .ask .ensures in
+    let s = c .before .before .before .before .before in
+    let h : 43013 ≤ length (s .args .out .now) = omega (arith, c .before .before .before .before) in
+    record { bytes = ended-bytes (a .said) h; count = ended-count (a .said) h; room = ended-room (a .said) h; most = ended-most (a .said) h; state = a .state; linked = a .linked }
+
+pub answer-line-spec : {M : Type 1} → statement M
+answer-line-spec =
+    tie.close (tie.spec parse-requires ask-requires element-write-out add-next returns)

@@ -1,0 +1,26 @@
+-- `lines::calling::adds` meets its contract. Assumes nothing.
+use Rattle.lines.specs.Answer.{answerOf, kept}
+use Rattle.lines.proofs.Calls.{replied}
+use borrow.Author.Needs.{needs}
+use Rattle.lines.proofs.calling.adds.Statement.{statement}
+use Rattle.lines.proofs.calling.adds.Tie as tie
+use Rattle.lines.proofs.calling.adds.Reads as reads
+use Rattle.lines.proofs.calling.adds.Lts as lts
+use Rattle.changing.proofs.adding.append.Reads as append-reads
+use Rattle.lines.proofs.answering.print_added.Reads as print-added-reads
+
+append-requires : tie.Need-append-requires
+append-requires c κs = search needs
+
+print-added-requires : tie.Need-print-added-requires
+print-added-requires c κs = search needs
+
+same-length : tie.Need-same-length
+same-length c = search needs
+
+returns : tie.Need-returns
+unfolding answerOf
+returns c = replied kept (c .before .before .before .before .before .append .ensures) (c .before .before .before .print-added .ensures)
+
+pub adds-spec : {M : Type 1} → statement M
+adds-spec = tie.close (tie.spec append-requires print-added-requires same-length returns)

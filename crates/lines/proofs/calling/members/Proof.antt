@@ -1,0 +1,40 @@
+-- `lines::calling::members` meets its contract. Assumes nothing.
+use Rattle.lines.specs.Answer.{answerOf, keyed}
+use Rattle.lines.proofs.Calls.{replied}
+use borrow.Author.Needs.{needs}
+use Rattle.lines.proofs.calling.members.Statement.{statement}
+use Rattle.lines.proofs.calling.members.Tie as tie
+use Rattle.lines.proofs.calling.members.Reads as reads
+use Rattle.lines.proofs.calling.members.Lts as lts
+use Rattle.lines.proofs.answering.print_members.Reads as print-members-reads
+use Rattle.reading.proofs.keys.Reads as keys-reads
+
+slice-aggregate-keys : tie.Need-slice-aggregate-keys
+slice-aggregate-keys c = search needs
+
+keys-requires : tie.Need-keys-requires
+keys-requires c κs = search needs
+
+slice-aggregate-print-members : tie.Need-slice-aggregate-print-members
+slice-aggregate-print-members c = search needs
+
+print-members-requires : tie.Need-print-members-requires
+print-members-requires c κs = search needs
+
+same-length : tie.Need-same-length
+same-length c = search needs
+
+returns : tie.Need-returns
+unfolding answerOf
+returns c = replied keyed (c .before .before .before .before .before .before .keys .ensures) (c .before .before .print-members .ensures)
+
+pub members-spec : {M : Type 1} → statement M
+members-spec =
+    tie.close
+    (tie.spec
+    slice-aggregate-keys
+    keys-requires
+    slice-aggregate-print-members
+    print-members-requires
+    same-length
+    returns)

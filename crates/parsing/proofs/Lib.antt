@@ -1,0 +1,4 @@
+pub mod Numbers
+pub mod Gaps
+pub mod Forms
+pub mod Splits
