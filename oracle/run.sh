@@ -1,7 +1,7 @@
 #!/bin/sh
 # Runs the comparison with the Rust crate, all of it from nothing: fetches by apt-get what is missing, builds the crate,
 # the port's static library (where crates.txt has the crate exports) and the driver, and runs the driver's own tests, the
-# confirmed differences and then what the argument says. Nothing is written to the repository outside target/.
+# confirmed differences, the mixes of EntryValues, damaged records and then what the argument says. Nothing is written to the repository outside target/.
 #
 #   oracle/run.sh [quick|full] [SEED]    compare (quick without an argument)
 #   oracle/run.sh bench                  time each call
@@ -40,5 +40,7 @@ rustc --edition 2021 -O --crate-name driver $port -L dependency=target/oracle \
 
 target/oracle/driver selftest
 target/oracle/driver faults
+target/oracle/driver mixes
+[ -z "$port" ] || target/oracle/driver damage
 [ $# -gt 0 ] || set -- quick
 target/oracle/driver "$@"

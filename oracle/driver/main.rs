@@ -3,8 +3,11 @@
 mod bench;
 mod compare;
 mod crate_map;
+#[cfg(port)]
+mod damage;
 mod faults;
 mod lists;
+mod mixes;
 mod model;
 mod port;
 mod selftest;
@@ -16,7 +19,7 @@ use model::OPS;
 use std::process::exit;
 use std::time::Instant;
 
-const USAGE: &str = "usage: driver quick [SEED] | full [SEED] | selftest | faults | bench";
+const USAGE: &str = "usage: driver quick [SEED] | full [SEED] | selftest | faults | mixes | damage [SEED] | bench";
 
 fn main() {
     let words: Vec<String> = std::env::args().skip(1).collect();
@@ -27,6 +30,9 @@ fn main() {
         ("full", Some(seed)) => compare_all(true, seed),
         ("selftest", _) => selftest::run(),
         ("faults", _) => faults::run(),
+        ("mixes", _) => mixes::run(),
+        #[cfg(port)]
+        ("damage", Some(seed)) => damage::run(seed),
         ("bench", _) => bench::run(),
         _ => {
             eprintln!("{}", USAGE);

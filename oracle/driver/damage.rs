@@ -1,0 +1,184 @@
+// Records damaged at random: the port's well_linked beside a check written here from document 01, module 6, with sets and plain loops.
+
+use crate::lists::{start_place, Random};
+use std::collections::HashSet;
+
+#[repr(C)]
+#[derive(Clone, Copy)]
+struct Map {
+    keys: [u64; 256],
+    length: [u16; 256],
+    next_key: [u16; 257],
+    previous_key: [u16; 257],
+    values: [u64; 1024],
+    key_index: [u16; 1024],
+    next_value: [u16; 1025],
+    previous_value: [u16; 1025],
+    next_index: [u16; 1280],
+    previous_index: [u16; 1280],
+    index: [u16; 512],
+    keys_len: u16,
+    keys_fresh: u16,
+    keys_free: u16,
+    values_len: u16,
+    values_fresh: u16,
+    values_free: u16,
+    taken: u32,
+}
+
+extern "C" {
+    fn om_new() -> Map;
+    fn om_append(m: Map, k: u64, v: u64) -> Map;
+    fn om_remove(m: Map, k: u64) -> Map;
+    fn om_pop_front(m: Map) -> Map;
+    fn om_pop_back(m: Map) -> Map;
+    fn om_well_linked(m: Map) -> u64;
+}
+
+// The places of a list in order, where its links and its freed places are right.
+fn order(next: &[u16], previous: &[u16], len: u16, fresh: u16, free: u16) -> Option<Vec<u16>> {
+    let root = (next.len() - 1) as u16;
+    if len > fresh || fresh > root {
+        return None;
+    }
+    let mut seen = HashSet::new();
+    let (mut places, mut before) = (Vec::new(), root);
+    for _ in 0..len {
+        let here = next[before as usize];
+        if here >= fresh || !seen.insert(here) || previous[here as usize] != before {
+            return None;
+        }
+        places.push(here);
+        before = here;
+    }
+    if next[before as usize] != root || previous[root as usize] != before {
+        return None;
+    }
+    let mut here = free;
+    for _ in len..fresh {
+        if here >= fresh || !seen.insert(here) {
+            return None;
+        }
+        here = next[here as usize];
+    }
+    Some(places)
+}
+
+// Each member place stands in one index place, where the search finds it; every other place is empty.
+fn indexed(m: &Map, members: &[u16]) -> bool {
+    let used: Vec<u16> = m.index.iter().copied().filter(|p| *p != 65535).collect();
+    let held: HashSet<u16> = used.iter().copied().collect();
+    if used.len() != members.len() || held != members.iter().copied().collect() {
+        return false;
+    }
+    members.iter().all(|place| {
+        let mut at = start_place(m.keys[*place as usize]) as usize;
+        for _ in 0..512 {
+            if m.index[at] == 65535 {
+                return false;
+            }
+            if m.index[at] == *place {
+                return true;
+            }
+            at = (at + 1) % 512;
+        }
+        false
+    })
+}
+
+fn well_linked(m: &Map) -> bool {
+    let Some(members) = order(&m.next_key, &m.previous_key, m.keys_len, m.keys_fresh, m.keys_free) else { return false };
+    let Some(rounds) = order(&m.next_value, &m.previous_value, m.values_len, m.values_fresh, m.values_free) else { return false };
+    let known: HashSet<u16> = members.iter().copied().collect();
+    let numbers: HashSet<u64> = members.iter().map(|p| m.keys[*p as usize]).collect();
+    if numbers.len() != members.len() || rounds.iter().any(|r| !known.contains(&m.key_index[*r as usize])) {
+        return false;
+    }
+    let chained = members.iter().all(|place| {
+        let record: Vec<u16> = rounds.iter().copied().filter(|r| m.key_index[*r as usize] == *place).collect();
+        let end = 1024 + *place;
+        let mut before = end;
+        for round in record.iter().chain(std::iter::once(&end)) {
+            if m.next_index[before as usize] != *round || m.previous_index[*round as usize] != before {
+                return false;
+            }
+            before = *round;
+        }
+        !record.is_empty() && m.length[*place as usize] as usize == record.len()
+    });
+    chained && indexed(m, &members)
+}
+
+// A well-linked map made by some calls.
+fn sample(random: &mut Random) -> Map {
+    let mut m = unsafe { om_new() };
+    let (calls, members) = (random.below(40), 1 + random.below(12));
+    for _ in 0..calls {
+        let k = random.below(members) as u64;
+        m = unsafe {
+            match random.below(10) {
+                0 => om_remove(m, k),
+                1 => om_pop_front(m),
+                2 => om_pop_back(m),
+                _ => om_append(m, k, random.below(100) as u64),
+            }
+        };
+    }
+    m
+}
+
+// One number of the record set to another: near what it was, a place in use, or any.
+fn damage(m: &mut Map, random: &mut Random) {
+    let any = |random: &mut Random, old: u16| match random.below(4) {
+        0 => old.wrapping_add(1),
+        1 => old.wrapping_sub(1),
+        2 => random.below(16) as u16,
+        _ => random.below(65536) as u16,
+    };
+    let near = |random: &mut Random, n: usize, end: usize| if random.below(4) == 0 { end } else { random.below(n) };
+    let slot: &mut u16 = match random.below(15) {
+        0 => &mut m.length[near(random, 12, 11)],
+        1 => &mut m.next_key[near(random, 12, 256)],
+        2 => &mut m.previous_key[near(random, 12, 256)],
+        3 => &mut m.key_index[near(random, 40, 39)],
+        4 => &mut m.next_value[near(random, 40, 1024)],
+        5 => &mut m.previous_value[near(random, 40, 1024)],
+        6 => &mut m.next_index[if random.below(2) == 0 { random.below(40) } else { 1024 + random.below(12) }],
+        7 => &mut m.previous_index[if random.below(2) == 0 { random.below(40) } else { 1024 + random.below(12) }],
+        8 => {
+            let at = (start_place(random.below(12) as u64) as usize + random.below(3)) % 512;
+            &mut m.index[at]
+        }
+        9 => &mut m.keys_len,
+        10 => &mut m.keys_fresh,
+        11 => &mut m.keys_free,
+        12 => &mut m.values_len,
+        13 => &mut m.values_fresh,
+        _ => &mut m.values_free,
+    };
+    let new = any(random, *slot);
+    *slot = new;
+    if random.below(20) == 0 {
+        m.keys[random.below(12)] = random.below(12) as u64;
+    }
+}
+
+// Checks so many records, a third of them undamaged. Do both always agree?
+pub fn run(seed: u64) -> bool {
+    let mut random = Random(seed);
+    let (mut yes, mut no, mut other) = (0u64, 0u64, 0u64);
+    while yes + no < 1_200_000 {
+        let good = sample(&mut random);
+        for round in 0..12 {
+            let mut m = good;
+            for _ in 0..round % 3 {
+                damage(&mut m, &mut random);
+            }
+            let said = unsafe { om_well_linked(m) } == 1;
+            other += (said != well_linked(&m)) as u64;
+            if said { yes += 1 } else { no += 1 }
+        }
+    }
+    println!("well_linked: {} records, {} well-linked, {} not, disagreements {}", yes + no, yes, no, other);
+    other == 0
+}
