@@ -133,7 +133,7 @@ def cases():
     yield 'malformed', b''.join(b'a 7 10\n%s\nl\nm\n' % bad for bad in MALFORMED)
     largest = b'18446744073709551615'
     yield 'numbers', b'\n'.join([b'a 0 0', b'a 00 000', b'a %s %s' % (largest, largest), b'a 018446744073709551615 1', b'a %s 1' % (b'0' * 1000), b'i %s 0' % largest, b'l', b'm', b'r 0', b'r 0', b'l', b'm', b'f', b'f']) + b'\n'
-    yield 'lengths', b'\n'.join([b'a 1 ' + b'0' * (1100 - 5) + b'1', b'a 1 ' + b'0' * (1101 - 5) + b'1', b'k ' + b'0' * 1098, b'k ' + b'0' * 1099, b'x' * 1100, b'x' * 1101, b'a ' * 40000, b'l', b'l ' * 1000, b'm']) + b'\n'
+    yield 'lengths', b'\n'.join([b'a 1 ' + b'0' * (1100 - 5) + b'1', b'a 1 ' + b'0' * (1101 - 5) + b'1', b'k ' + b'0' * 1098, b'k ' + b'0' * 1099, b'x' * 1100, b'x' * 1101, b'a ' * 4000, b'l', b'l ' * 1000, b'm']) + b'\n'
     yield 'long_last_line', b'a 1 2\n' + b'9' * 200000
     rounds = [b'a %d %d' % (2 ** 64 - 1 - i % 256, 2 ** 64 - 1 - i) for i in range(1023)]
     yield 'limits', b'\n'.join(rounds + [b'a 5 5', b'l', b'a 18446744073709551615 1', b'a 18446744073709551615 2', b'a 5 5', b'i 5 5', b'i 18446744073709551615 3', b'l', b'm', b'r 18446744073709551614', b'a 5 5', b'k ' + b'1' * 1024, b'k ' + b'01' * 510, b'l', b'm']) + b'\n'
@@ -164,6 +164,7 @@ def gate():
     return b''.join([
         named['example'], named['malformed'], named['lengths'], named['numbers'],
         b''.join(b'r %d\n' % k for k in (7, 1, 2 ** 64 - 1)), b'l\nm\nf\nb\nk\n',
+        b'\n'.join([b'a %d %d' % (i, i) for i in range(256)] + [b'a 256 1', b'i 256 1', b'a 3 1', b'm', b'k ' + b'0' * 257, b'l', b'm']), b'\n',
         b'\n'.join(full + [b'a 18446744073709551615 1', b'a 5 5', b'i 5 5', b'l', b'i 18446744073709551615 3', b'a 5 5', b'a 6 6', b'k ' + b'1' * 1017]), b'\n',
         b'\n'.join(b'r %d' % (2 ** 64 - 1 - k) for k in range(1, 190)), b'\nf\nb\nm\nl',
     ])

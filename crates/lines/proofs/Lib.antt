@@ -3,3 +3,4 @@ pub mod Decimals
 pub mod Runs
 pub mod Sayings
 pub mod Calls
+pub mod Whole

@@ -2,3 +2,4 @@ pub mod Text
 pub mod Put
 pub mod Answer
 pub mod Said
+pub mod Whole

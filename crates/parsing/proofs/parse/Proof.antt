@@ -15,7 +15,7 @@ use Rattle.parsing.proofs.alone.Reads as alone-reads
 use Rattle.parsing.proofs.with_fields.Reads as with-fields-reads
 
 returns : tie.Need-returns
-returns c = line-long (c .before .before .args .line .now) (c .if1 .taken)
+returns c = line-long (c .before .before .args .line .now) (omega arith)
 
 returns-2 : tie.Need-returns-2
 returns-2 c = line-empty (c .before .before .before .args .line .now) (omega arith)
