@@ -14,7 +14,7 @@ pub struct Given {
     pub answer: Answer,
 }
 
-pub fn append(m: ListOrderedMultimap, k: u64, v: u64) -> Given
+pub(crate) fn append(m: ListOrderedMultimap, k: u64, v: u64) -> Given
     requires { ⌜ WellLinked m ⌝ }
     ensures { λ r. ⌜ Does linked (C.append k v) m (say (answerOf (r .answer))) (r .map) ⌝ }
 {
@@ -25,7 +25,7 @@ pub fn append(m: ListOrderedMultimap, k: u64, v: u64) -> Given
     Given { map, answer }
 }
 
-pub fn insert(m: ListOrderedMultimap, k: u64, v: u64) -> Given
+pub(crate) fn insert(m: ListOrderedMultimap, k: u64, v: u64) -> Given
     requires { ⌜ WellLinked m ⌝ }
     ensures { λ r. ⌜ Does linked (C.insert k v) m (say (answerOf (r .answer))) (r .map) ⌝ }
 {
@@ -36,7 +36,7 @@ pub fn insert(m: ListOrderedMultimap, k: u64, v: u64) -> Given
     Given { map, answer }
 }
 
-pub fn insert_all(m: ListOrderedMultimap, k: u64, v: u64, out: &mut [u64]) -> Given
+pub(crate) fn insert_all(m: ListOrderedMultimap, k: u64, v: u64, out: &mut [u64]) -> Given
     requires { ⌜ WellLinked m ⌝ }
     ensures { λ r. ⌜ Does linked (C.insert-all k v (now (out .entry))) m (write (answerOf (r .answer)) (now (out .exit))) (r .map) ⌝ }
 {
@@ -47,7 +47,7 @@ pub fn insert_all(m: ListOrderedMultimap, k: u64, v: u64, out: &mut [u64]) -> Gi
     Given { map, answer }
 }
 
-pub fn remove(m: ListOrderedMultimap, k: u64) -> Given
+pub(crate) fn remove(m: ListOrderedMultimap, k: u64) -> Given
     requires { ⌜ WellLinked m ⌝ }
     ensures { λ r. ⌜ Does linked (C.remove k) m (say (answerOf (r .answer))) (r .map) ⌝ }
 {
@@ -58,7 +58,7 @@ pub fn remove(m: ListOrderedMultimap, k: u64) -> Given
     Given { map, answer }
 }
 
-pub fn remove_all(m: ListOrderedMultimap, k: u64, out: &mut [u64]) -> Given
+pub(crate) fn remove_all(m: ListOrderedMultimap, k: u64, out: &mut [u64]) -> Given
     requires { ⌜ WellLinked m ⌝ }
     ensures { λ r. ⌜ Does linked (C.remove-all k (now (out .entry))) m (write (answerOf (r .answer)) (now (out .exit))) (r .map) ⌝ }
 {
@@ -69,7 +69,7 @@ pub fn remove_all(m: ListOrderedMultimap, k: u64, out: &mut [u64]) -> Given
     Given { map, answer }
 }
 
-pub fn entry(m: ListOrderedMultimap, k: u64) -> Given
+pub(crate) fn entry(m: ListOrderedMultimap, k: u64) -> Given
     requires { ⌜ WellLinked m ⌝ }
     ensures { λ r. ⌜ Does linked (C.entry k) m (say (answerOf (r .answer))) (r .map) ⌝ }
 {
@@ -78,7 +78,7 @@ pub fn entry(m: ListOrderedMultimap, k: u64) -> Given
     Given { map: m, answer }
 }
 
-pub fn occupied_append(m: ListOrderedMultimap, k: u64, v: u64) -> Given
+pub(crate) fn occupied_append(m: ListOrderedMultimap, k: u64, v: u64) -> Given
     requires { ⌜ WellLinked m ⌝ }
     ensures { λ r. ⌜ Does linked (C.occupied-append k v) m (say (answerOf (r .answer))) (r .map) ⌝ }
 {
@@ -89,7 +89,7 @@ pub fn occupied_append(m: ListOrderedMultimap, k: u64, v: u64) -> Given
     Given { map, answer }
 }
 
-pub fn occupied_insert(m: ListOrderedMultimap, k: u64, v: u64) -> Given
+pub(crate) fn occupied_insert(m: ListOrderedMultimap, k: u64, v: u64) -> Given
     requires { ⌜ WellLinked m ⌝ }
     ensures { λ r. ⌜ Does linked (C.occupied-insert k v) m (say (answerOf (r .answer))) (r .map) ⌝ }
 {
@@ -100,7 +100,7 @@ pub fn occupied_insert(m: ListOrderedMultimap, k: u64, v: u64) -> Given
     Given { map, answer }
 }
 
-pub fn occupied_remove_entry(m: ListOrderedMultimap, k: u64) -> Given
+pub(crate) fn occupied_remove_entry(m: ListOrderedMultimap, k: u64) -> Given
     requires { ⌜ WellLinked m ⌝ }
     ensures { λ r. ⌜ Does linked (C.occupied-remove-entry k) m (say (answerOf (r .answer))) (r .map) ⌝ }
 {
@@ -111,7 +111,7 @@ pub fn occupied_remove_entry(m: ListOrderedMultimap, k: u64) -> Given
     Given { map, answer }
 }
 
-pub fn vacant_insert(m: ListOrderedMultimap, k: u64, v: u64) -> Given
+pub(crate) fn vacant_insert(m: ListOrderedMultimap, k: u64, v: u64) -> Given
     requires { ⌜ WellLinked m ⌝ }
     ensures { λ r. ⌜ Does linked (C.vacant-insert k v) m (say (answerOf (r .answer))) (r .map) ⌝ }
 {
@@ -122,7 +122,7 @@ pub fn vacant_insert(m: ListOrderedMultimap, k: u64, v: u64) -> Given
     Given { map, answer }
 }
 
-pub fn pop_front(m: ListOrderedMultimap) -> Given
+pub(crate) fn pop_front(m: ListOrderedMultimap) -> Given
     requires { ⌜ WellLinked m ⌝ }
     ensures { λ r. ⌜ Does linked C.pop-front m (say (answerOf (r .answer))) (r .map) ⌝ }
 {
@@ -133,7 +133,7 @@ pub fn pop_front(m: ListOrderedMultimap) -> Given
     Given { map, answer }
 }
 
-pub fn pop_back(m: ListOrderedMultimap) -> Given
+pub(crate) fn pop_back(m: ListOrderedMultimap) -> Given
     requires { ⌜ WellLinked m ⌝ }
     ensures { λ r. ⌜ Does linked C.pop-back m (say (answerOf (r .answer))) (r .map) ⌝ }
 {
@@ -144,7 +144,7 @@ pub fn pop_back(m: ListOrderedMultimap) -> Given
     Given { map, answer }
 }
 
-pub fn retain(m: ListOrderedMultimap, marks: &[u8]) -> Given
+pub(crate) fn retain(m: ListOrderedMultimap, marks: &[u8]) -> Given
     requires { ⌜ WellLinked m ⌝ }
     ensures { λ r. ⌜ Does linked (C.retain (now (marks .entry))) m (say (answerOf (r .answer))) (r .map) ⌝ }
 {
@@ -155,7 +155,7 @@ pub fn retain(m: ListOrderedMultimap, marks: &[u8]) -> Given
     Given { map, answer }
 }
 
-pub fn pack_to(m: ListOrderedMultimap, k: u64, v: u64) -> Given
+pub(crate) fn pack_to(m: ListOrderedMultimap, k: u64, v: u64) -> Given
     requires { ⌜ WellLinked m ⌝ }
     ensures { λ r. ⌜ Does linked (C.pack-to k v) m (say (answerOf (r .answer))) (r .map) ⌝ }
 {
@@ -166,7 +166,7 @@ pub fn pack_to(m: ListOrderedMultimap, k: u64, v: u64) -> Given
     Given { map, answer }
 }
 
-pub fn clear(m: ListOrderedMultimap) -> Given
+pub(crate) fn clear(m: ListOrderedMultimap) -> Given
     requires { ⌜ WellLinked m ⌝ }
     ensures { λ r. ⌜ Does linked C.clear m (say (answerOf (r .answer))) (r .map) ⌝ }
 {
@@ -177,7 +177,7 @@ pub fn clear(m: ListOrderedMultimap) -> Given
     }
 }
 
-pub fn get(m: ListOrderedMultimap, k: u64) -> Given
+pub(crate) fn get(m: ListOrderedMultimap, k: u64) -> Given
     requires { ⌜ WellLinked m ⌝ }
     ensures { λ r. ⌜ Does linked (C.get k) m (say (answerOf (r .answer))) (r .map) ⌝ }
 {
@@ -186,7 +186,7 @@ pub fn get(m: ListOrderedMultimap, k: u64) -> Given
     Given { map: m, answer }
 }
 
-pub fn get_all(m: ListOrderedMultimap, k: u64, out: &mut [u64]) -> Given
+pub(crate) fn get_all(m: ListOrderedMultimap, k: u64, out: &mut [u64]) -> Given
     requires { ⌜ WellLinked m ⌝ }
     ensures { λ r. ⌜ Does linked (C.get-all k (now (out .entry))) m (write (answerOf (r .answer)) (now (out .exit))) (r .map) ⌝ }
 {
@@ -195,7 +195,7 @@ pub fn get_all(m: ListOrderedMultimap, k: u64, out: &mut [u64]) -> Given
     Given { map: m, answer }
 }
 
-pub fn entry_len(m: ListOrderedMultimap, k: u64) -> Given
+pub(crate) fn entry_len(m: ListOrderedMultimap, k: u64) -> Given
     requires { ⌜ WellLinked m ⌝ }
     ensures { λ r. ⌜ Does linked (C.entry-len k) m (say (answerOf (r .answer))) (r .map) ⌝ }
 {
@@ -206,7 +206,7 @@ pub fn entry_len(m: ListOrderedMultimap, k: u64) -> Given
     }
 }
 
-pub fn contains_key(m: ListOrderedMultimap, k: u64) -> Given
+pub(crate) fn contains_key(m: ListOrderedMultimap, k: u64) -> Given
     requires { ⌜ WellLinked m ⌝ }
     ensures { λ r. ⌜ Does linked (C.contains-key k) m (say (answerOf (r .answer))) (r .map) ⌝ }
 {
@@ -217,7 +217,7 @@ pub fn contains_key(m: ListOrderedMultimap, k: u64) -> Given
     }
 }
 
-pub fn keys(m: ListOrderedMultimap, out: &mut [u64]) -> Given
+pub(crate) fn keys(m: ListOrderedMultimap, out: &mut [u64]) -> Given
     requires { ⌜ WellLinked m ⌝ }
     ensures { λ r. ⌜ Does linked (C.keys (now (out .entry))) m (write (answerOf (r .answer)) (now (out .exit))) (r .map) ⌝ }
 {
@@ -226,7 +226,7 @@ pub fn keys(m: ListOrderedMultimap, out: &mut [u64]) -> Given
     Given { map: m, answer }
 }
 
-pub fn keys_len(m: ListOrderedMultimap) -> Given
+pub(crate) fn keys_len(m: ListOrderedMultimap) -> Given
     requires { ⌜ WellLinked m ⌝ }
     ensures { λ r. ⌜ Does linked C.keys-len m (say (answerOf (r .answer))) (r .map) ⌝ }
 {
@@ -237,7 +237,7 @@ pub fn keys_len(m: ListOrderedMultimap) -> Given
     }
 }
 
-pub fn values_len(m: ListOrderedMultimap) -> Given
+pub(crate) fn values_len(m: ListOrderedMultimap) -> Given
     requires { ⌜ WellLinked m ⌝ }
     ensures { λ r. ⌜ Does linked C.values-len m (say (answerOf (r .answer))) (r .map) ⌝ }
 {
@@ -248,7 +248,7 @@ pub fn values_len(m: ListOrderedMultimap) -> Given
     }
 }
 
-pub fn iter(m: ListOrderedMultimap, out: &mut [u64], out2: &mut [u64]) -> Given
+pub(crate) fn iter(m: ListOrderedMultimap, out: &mut [u64], out2: &mut [u64]) -> Given
     requires { ⌜ WellLinked m ⌝ }
     ensures { λ r. ⌜ Does linked (C.iter (now (out .entry)) (now (out2 .entry))) m (record { answer = answerOf (r .answer); slices = lend (now (out .exit)) (now (out2 .exit)) }) (r .map) ⌝ }
 {
@@ -257,7 +257,7 @@ pub fn iter(m: ListOrderedMultimap, out: &mut [u64], out2: &mut [u64]) -> Given
     Given { map: m, answer }
 }
 
-pub fn taken(m: ListOrderedMultimap) -> Given
+pub(crate) fn taken(m: ListOrderedMultimap) -> Given
     requires { ⌜ WellLinked m ⌝ }
     ensures { λ r. ⌜ Does linked C.taken m (say (answerOf (r .answer))) (r .map) ⌝ }
 {
