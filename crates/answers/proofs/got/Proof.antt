@@ -1,9 +1,9 @@
--- `replay::answers::got` meets its contract. Assumes nothing.
+-- `answers::got` meets its contract. Assumes nothing.
 use mathlib.Core.Path.{sym, ap}
 use Rattle.multimap.specs.Answers.{gotOf}
 use borrow.Author.Needs.{needs}
-use Rattle.replay.proofs.answers.got.Statement.{statement}
-use Rattle.replay.proofs.answers.got.Tie as tie
+use Rattle.answers.proofs.got.Statement.{statement}
+use Rattle.answers.proofs.got.Tie as tie
 
 enum-told : tie.Need-enum-told
 enum-told c = search needs

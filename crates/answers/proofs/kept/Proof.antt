@@ -1,9 +1,9 @@
--- `replay::answers::kept` meets its contract. Assumes nothing.
+-- `answers::kept` meets its contract. Assumes nothing.
 use mathlib.Core.Path.{sym, ap}
 use Rattle.changing.specs.RemovingAnswer.{keptOf}
 use borrow.Author.Needs.{needs}
-use Rattle.replay.proofs.answers.kept.Statement.{statement}
-use Rattle.replay.proofs.answers.kept.Tie as tie
+use Rattle.answers.proofs.kept.Statement.{statement}
+use Rattle.answers.proofs.kept.Tie as tie
 
 enum-known-a : tie.Need-enum-known-a
 enum-known-a c = search needs

@@ -1,9 +1,9 @@
--- `replay::answers::popped` meets its contract. Assumes nothing.
+-- `answers::popped` meets its contract. Assumes nothing.
 use mathlib.Core.Path.{sym, ap}
 use Rattle.changing.specs.RemovingAnswer.{poppedOf}
 use borrow.Author.Needs.{needs}
-use Rattle.replay.proofs.answers.popped.Statement.{statement}
-use Rattle.replay.proofs.answers.popped.Tie as tie
+use Rattle.answers.proofs.popped.Statement.{statement}
+use Rattle.answers.proofs.popped.Tie as tie
 
 enum-told : tie.Need-enum-told
 enum-told c = search needs

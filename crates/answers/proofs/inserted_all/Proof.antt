@@ -1,9 +1,9 @@
--- `replay::answers::inserted_all` meets its contract. Assumes nothing.
+-- `answers::inserted_all` meets its contract. Assumes nothing.
 use mathlib.Core.Path.{sym, ap}
 use Rattle.changing.specs.InsertingAnswer.{insertedAllOf}
 use borrow.Author.Needs.{needs}
-use Rattle.replay.proofs.answers.inserted_all.Statement.{statement}
-use Rattle.replay.proofs.answers.inserted_all.Tie as tie
+use Rattle.answers.proofs.inserted_all.Statement.{statement}
+use Rattle.answers.proofs.inserted_all.Tie as tie
 
 enum-known-a : tie.Need-enum-known-a
 enum-known-a c = search needs

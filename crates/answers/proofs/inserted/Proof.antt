@@ -1,9 +1,9 @@
--- `replay::answers::inserted` meets its contract. Assumes nothing.
+-- `answers::inserted` meets its contract. Assumes nothing.
 use mathlib.Core.Path.{sym, ap}
 use Rattle.changing.specs.InsertingAnswer.{insertedOf}
 use borrow.Author.Needs.{needs}
-use Rattle.replay.proofs.answers.inserted.Statement.{statement}
-use Rattle.replay.proofs.answers.inserted.Tie as tie
+use Rattle.answers.proofs.inserted.Statement.{statement}
+use Rattle.answers.proofs.inserted.Tie as tie
 
 enum-told : tie.Need-enum-told
 enum-told c = search needs

@@ -1,9 +1,9 @@
--- `replay::answers::entry` meets its contract. Assumes nothing.
+-- `answers::entry` meets its contract. Assumes nothing.
 use mathlib.Core.Path.{sym, ap}
 use Rattle.reading.specs.Answers.{entryAnswerOf}
 use borrow.Author.Needs.{needs}
-use Rattle.replay.proofs.answers.entry.Statement.{statement}
-use Rattle.replay.proofs.answers.entry.Tie as tie
+use Rattle.answers.proofs.entry.Statement.{statement}
+use Rattle.answers.proofs.entry.Tie as tie
 
 enum-known-a : tie.Need-enum-known-a
 enum-known-a c = search needs

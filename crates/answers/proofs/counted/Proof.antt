@@ -1,9 +1,9 @@
--- `replay::answers::counted` meets its contract. Assumes nothing.
+-- `answers::counted` meets its contract. Assumes nothing.
 use mathlib.Core.Path.{sym, ap}
 use Rattle.multimap.specs.Answers.{countedOf}
 use borrow.Author.Needs.{needs}
-use Rattle.replay.proofs.answers.counted.Statement.{statement}
-use Rattle.replay.proofs.answers.counted.Tie as tie
+use Rattle.answers.proofs.counted.Statement.{statement}
+use Rattle.answers.proofs.counted.Tie as tie
 
 enum-known-a : tie.Need-enum-known-a
 enum-known-a c = search needs

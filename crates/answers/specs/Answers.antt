@@ -1,7 +1,7 @@
 -- Document 01's answer for each case of the answer that all calls are brought to.
 use Rattle.steps.specs.Call as C
-use Rattle.replay.specs.declared.answers.Answer.{Answer}
-use Rattle.replay.specs.declared.answers.Answer.the-variants.{Refused, Nothing, Done, Round, Count, Present, Popped, Occupied, Vacant}
+use Rattle.answers.specs.declared.Answer.{Answer}
+use Rattle.answers.specs.declared.Answer.the-variants.{Refused, Nothing, Done, Round, Count, Present, Popped, Occupied, Vacant}
 
 abbrev pub answerOf : Answer → C.Answer
 answerOf (Refused n) = C.refused n

@@ -11,7 +11,7 @@ use multimap::Got;
 use packing::Repacked;
 use reading::Entry;
 ghost use mathlib.Core.Path.{_≡_};
-ghost use lib.ListN.{length, getD};
+ghost use lib.ListN.{getD};
 ghost use Rattle.multimap.specs.Answers.{gotOf, countedOf};
 ghost use Rattle.reading.specs.Answers.{entryAnswerOf};
 ghost use Rattle.changing.specs.AddingAnswer.{addedOf};
@@ -19,8 +19,8 @@ ghost use Rattle.changing.specs.InsertingAnswer.{insertedOf, insertedAllOf};
 ghost use Rattle.changing.specs.RemovingAnswer.{poppedOf, keptOf};
 ghost use Rattle.entries.specs.Answers.{appendedOf, firstOf, vacantOf};
 ghost use Rattle.packing.specs.Answer.{repackedOf};
-ghost use Rattle.replay.specs.Tape.{bit as bitOf, coded};
-ghost use Rattle.replay.specs.Answers.{answerOf};
+ghost use Rattle.answers.specs.Answers.{answerOf};
+ghost use Rattle.answers.specs.Coded.{bit as bitOf, coded};
 
 pub enum Answer {
     Refused(u64),
@@ -34,7 +34,7 @@ pub enum Answer {
     Vacant(u64),
 }
 
-pub(crate) fn added(a: Added) -> Answer
+pub fn added(a: Added) -> Answer
     ensures { λ r. ⌜ answerOf r ≡ addedOf a ⌝ }
 {
     match a {
@@ -44,7 +44,7 @@ pub(crate) fn added(a: Added) -> Answer
     }
 }
 
-pub(crate) fn inserted(a: Inserted) -> Answer
+pub fn inserted(a: Inserted) -> Answer
     ensures { λ r. ⌜ answerOf r ≡ insertedOf a ⌝ }
 {
     match a {
@@ -55,7 +55,7 @@ pub(crate) fn inserted(a: Inserted) -> Answer
     }
 }
 
-pub(crate) fn inserted_all(a: InsertedAll) -> Answer
+pub fn inserted_all(a: InsertedAll) -> Answer
     ensures { λ r. ⌜ answerOf r ≡ insertedAllOf a ⌝ }
 {
     match a {
@@ -66,7 +66,7 @@ pub(crate) fn inserted_all(a: InsertedAll) -> Answer
     }
 }
 
-pub(crate) fn got(a: Got) -> Answer
+pub fn got(a: Got) -> Answer
     ensures { λ r. ⌜ answerOf r ≡ gotOf a ⌝ }
 {
     match a {
@@ -75,7 +75,7 @@ pub(crate) fn got(a: Got) -> Answer
     }
 }
 
-pub(crate) fn counted(a: Counted) -> Answer
+pub fn counted(a: Counted) -> Answer
     ensures { λ r. ⌜ answerOf r ≡ countedOf a ⌝ }
 {
     match a {
@@ -84,7 +84,7 @@ pub(crate) fn counted(a: Counted) -> Answer
     }
 }
 
-pub(crate) fn popped(a: Popped) -> Answer
+pub fn popped(a: Popped) -> Answer
     ensures { λ r. ⌜ answerOf r ≡ poppedOf a ⌝ }
 {
     match a {
@@ -93,7 +93,7 @@ pub(crate) fn popped(a: Popped) -> Answer
     }
 }
 
-pub(crate) fn kept(a: Kept) -> Answer
+pub fn kept(a: Kept) -> Answer
     ensures { λ r. ⌜ answerOf r ≡ keptOf a ⌝ }
 {
     match a {
@@ -103,7 +103,7 @@ pub(crate) fn kept(a: Kept) -> Answer
     }
 }
 
-pub(crate) fn repacked(a: Repacked) -> Answer
+pub fn repacked(a: Repacked) -> Answer
     ensures { λ r. ⌜ answerOf r ≡ repackedOf a ⌝ }
 {
     match a {
@@ -114,7 +114,7 @@ pub(crate) fn repacked(a: Repacked) -> Answer
     }
 }
 
-pub(crate) fn appended(a: Appended) -> Answer
+pub fn appended(a: Appended) -> Answer
     ensures { λ r. ⌜ answerOf r ≡ appendedOf a ⌝ }
 {
     match a {
@@ -124,7 +124,7 @@ pub(crate) fn appended(a: Appended) -> Answer
     }
 }
 
-pub(crate) fn first(a: First) -> Answer
+pub fn first(a: First) -> Answer
     ensures { λ r. ⌜ answerOf r ≡ firstOf a ⌝ }
 {
     match a {
@@ -133,7 +133,7 @@ pub(crate) fn first(a: First) -> Answer
     }
 }
 
-pub(crate) fn vacant(a: entries::vacant_entry::Inserted) -> Answer
+pub fn vacant(a: entries::vacant_entry::Inserted) -> Answer
     ensures { λ r. ⌜ answerOf r ≡ vacantOf a ⌝ }
 {
     match a {
@@ -144,7 +144,7 @@ pub(crate) fn vacant(a: entries::vacant_entry::Inserted) -> Answer
     }
 }
 
-pub(crate) fn entry(a: Entry) -> Answer
+pub fn entry(a: Entry) -> Answer
     ensures { λ r. ⌜ answerOf r ≡ entryAnswerOf a ⌝ }
 {
     match a {
@@ -227,13 +227,9 @@ fn word3(a: Answer) -> u64
     }
 }
 
-// The four numbers, into a slice of four.
-pub(crate) fn code(a: Answer, ans: &mut [u64])
-    requires { ⌜ length (now ans) ≡ 4 ⌝ }
-    ensures { λ _. ⌜ now (ans .exit) ≡ coded (answerOf a) ⌝ }
+// The four numbers.
+pub fn numbers(a: Answer) -> [u64; 4]
+    ensures { λ r. ⌜ r ≡ coded (answerOf a) ⌝ }
 {
-    ans[0] = word0(a);
-    ans[1] = word1(a);
-    ans[2] = word2(a);
-    ans[3] = word3(a);
+    [word0(a), word1(a), word2(a), word3(a)]
 }

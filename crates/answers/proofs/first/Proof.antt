@@ -1,9 +1,9 @@
--- `replay::answers::first` meets its contract. Assumes nothing.
+-- `answers::first` meets its contract. Assumes nothing.
 use mathlib.Core.Path.{sym, ap}
 use Rattle.entries.specs.Answers.{firstOf}
 use borrow.Author.Needs.{needs}
-use Rattle.replay.proofs.answers.first.Statement.{statement}
-use Rattle.replay.proofs.answers.first.Tie as tie
+use Rattle.answers.proofs.first.Statement.{statement}
+use Rattle.answers.proofs.first.Tie as tie
 
 enum-known-a : tie.Need-enum-known-a
 enum-known-a c = search needs

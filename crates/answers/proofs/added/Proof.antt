@@ -1,9 +1,9 @@
--- `replay::answers::added` meets its contract. Assumes nothing.
+-- `answers::added` meets its contract. Assumes nothing.
 use mathlib.Core.Path.{sym, ap}
 use Rattle.changing.specs.AddingAnswer.{addedOf}
 use borrow.Author.Needs.{needs}
-use Rattle.replay.proofs.answers.added.Statement.{statement}
-use Rattle.replay.proofs.answers.added.Tie as tie
+use Rattle.answers.proofs.added.Statement.{statement}
+use Rattle.answers.proofs.added.Tie as tie
 
 enum-known-a : tie.Need-enum-known-a
 enum-known-a c = search needs
