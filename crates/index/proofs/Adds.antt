@@ -1,4 +1,4 @@
--- A key place that is put into the first empty place of its member's search.
+-- A member place that is put into the first empty place of its member's search.
 -- Assumes nothing.
 use mathlib.Core.Path.{_≡_, sym, _∙_, ap}
 use mathlib.Core.List.{List, _∷_, List·Memᴰ, List·Memᴰ·head, List·Memᴰ·tail, List·Memᴰ·cases-cons}

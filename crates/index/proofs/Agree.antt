@@ -1,4 +1,4 @@
--- An index agrees with the key places in use exactly if each place and each key place does.
+-- An index agrees with the member places in use exactly if each place and each member place does.
 -- Assumes nothing.
 use mathlib.Core.Path.{_≡_, refl, sym, _∙_, ap, subst}
 use mathlib.Core.Bool.{Bool, true, false}
@@ -91,7 +91,7 @@ found-key (At q k n) l e = (q, k, n, refl, e)
 found-key (Absent q n) l e = absurd e
 
 module _ (t keys : List ℕ) (used : List Bool) (ks : List ℕ) (u : Lists used ks) where
-  -- each place and each key place is right: so is the whole
+  -- each place and each member place is right: so is the whole
   module _ (size : length t ≡ 512) (ps : (p : ℕ) → p < 512 → PlaceOk t keys used p) (qs : (k : ℕ) → k < 256 → KeyOk t keys used k) where
     -- what stands in a place that is not empty is found there
     own : (p : ℕ) → p < 512 → getD t p 0 < 256 → (k : KeyPlace) × (n : ℕ) × (searched t keys (getD keys (getD t p 0) 0) ≡ At p k n)
@@ -150,7 +150,7 @@ module _ (t keys : List ℕ) (used : List Bool) (ks : List ℕ) (u : Lists used 
               (less-or-not (dist (home (getD keys (getD t p 0) 0)) q) (dist (home (getD keys (getD t p 0) 0)) p));
         }
 
-  -- the whole is right: so is each place and each key place
+  -- the whole is right: so is each place and each member place
   module _ (h : Holds t keys ks) where
     finds : (k : ℕ) → List·Memᴰ k ks → (r : Found) → searched t keys (getD keys k 0) ≡ r → FoundKey k r × ((p : ℕ) → p < 512 → getD t p 0 ≡ k → FoundIn p r)
     unfolding FoundKey FoundIn

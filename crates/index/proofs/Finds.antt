@@ -1,4 +1,4 @@
--- The search in an index that holds a list of key places finds what it should.
+-- The search in an index that holds a list of member places finds what it should.
 -- Assumes nothing.
 use mathlib.Core.Path.{_≡_, refl, sym, _∙_, ap, subst}
 use mathlib.Core.List.{List, List·Memᴰ}

@@ -1,4 +1,4 @@
--- What a caller of the index may rely on, of an index t that holds the key places ks. Here: found exactly when present, and where; where the
+-- What a caller of the index may rely on, of an index t that holds the member places ks. Here: found exactly when present, and where; where the
 -- search starts; how many places it looks at. Elsewhere: `spare` (Table), that there always is an empty place; `few-looks` (Bound), that
 -- a search looks at no more places than there are members, and one more; `added` (Adds), what `insert` gives; `says-at` and `says-absent`
 -- (Finds), what each answer of a search says.
@@ -31,7 +31,7 @@ module _ (t keys ks : List ℕ) (h : Holds t keys ks) where
       go (At p k n) e = let w = says-at t keys ks m h p n k e in (k .0, w .2, w .3)
       go (Absent p n) e = λ w. says-absent t keys ks m h p n e .1 (w .0) (w .1) (w .2)
 
-  -- a member that is present is found under its key place, in the one place that holds it
+  -- a member that is present is found under its member place, in the one place that holds it
   pub found-there : (k p : ℕ) → List·Memᴰ k ks → p < 512 → getD t p 0 ≡ k
       → searched t keys (getD keys k 0) ≡ At p (record { 0 = k }) (dist (home (getD keys k 0)) p + 1)
   found-there k p i lp ep = go (searched t keys (getD keys k 0)) refl

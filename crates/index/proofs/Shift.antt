@@ -1,4 +1,4 @@
--- Closing the gap that a removed key place leaves. While it is closed, the table has one place, the gap, whose content no longer counts.
+-- Closing the gap that a removed member place leaves. While it is closed, the table has one place, the gap, whose content no longer counts.
 -- Assumes nothing.
 use mathlib.Core.Path.{_≡_, refl, sym, _∙_, ap}
 use mathlib.Core.List.{List, List·Memᴰ}
@@ -18,7 +18,7 @@ use Rattle.index.proofs.Without.{without-length, without-mem, mem-witho
 abbrev from : List ℕ → List ℕ → ℕ → ℕ
 from keys o p = home (getD keys (getD o p 0) 0)
 
--- The table o has its gap at g, and the places up to x, n steps above the first gap a, have been seen to. The key place r was taken out of ks.
+-- The table o has its gap at g, and the places up to x, n steps above the first gap a, have been seen to. The member place r was taken out of ks.
 -- e is an empty place.
 pub record Gap (keys ks : List ℕ) (r a e : ℕ) (o : List ℕ) (g x n : ℕ) : Type 0 where
   pub size : length o ≡ 512
@@ -120,7 +120,7 @@ module _ (keys ks : List ℕ) (r a e : ℕ) (la : a < 512) (le : e < 512) (o : L
         ahead = omega (arith, farther l);
       }
 
-  -- the key place at x moves down into the gap, and x is the gap
+  -- the member place at x moves down into the gap, and x is the gap
   module _ (l : getD o x 0 < 256) (moves : dist (from keys o x) g < dist (from keys o x) x) where
     here : getD (set o g (getD o x 0)) g 0 ≡ getD o x 0
     here = getD-set-same o g (getD o x 0) 0 (rw (s .size) (s .gap-in))

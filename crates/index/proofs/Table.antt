@@ -1,12 +1,12 @@
--- Laws of an index that holds a list of key places.
+-- Laws of an index that holds a list of member places.
 -- Assumes nothing.
-use mathlib.Core.Path.{_≡_, sym, _∙_}
+use mathlib.Core.Path.{_≡_, refl, sym, _∙_}
 use mathlib.Core.List.{List, [], List·Memᴰ, List·Memᴰ·not-nil}
 use mathlib.Core.Logic.{_⊎_, inl, inr, ⊎-elim}
 use Prim.Native.Nat.{ℕ, _<_, _≤_}
 use native.Mathlib.Omega.{arith}
-use lib.ListN.{length, getD}
-use Rattle.index.specs.Table.{Holds}
+use lib.ListN.{length, getD, getD-replicate}
+use Rattle.index.specs.Table.{Holds, emptyIndex}
 use Rattle.index.proofs.Pigeon.{pigeon, some-or-all}
 
 module _ {t keys ks : List ℕ} (h : Holds t keys ks) where
@@ -25,7 +25,7 @@ module _ {t keys ks : List ℕ} (h : Holds t keys ks) where
       absurd (omega (arith, h .few)))
       (some-or-all (λ p. getD t p 0) 256 512)
 
--- only what keys has at the key places held matters
+-- only what keys has at the member places held matters
 pub reread : {t keys keys′ ks : List ℕ} → ((k : ℕ) → List·Memᴰ k ks → getD keys k 0 ≡ getD keys′ k 0) → Holds t keys ks → Holds t keys′ ks
 reread {t} {keys} {keys′} same h =
     record {
@@ -39,7 +39,7 @@ reread {t} {keys} {keys′} same h =
       reach = λ p q lp lq l d. h .reach p q lp lq l (rw (same (getD t p 0) (held h p lp l)) d);
     }
 
--- the same key places in another list
+-- the same member places in another list
 pub relist : {t keys ks ks′ : List ℕ} → length ks′ ≤ 256 → ((k : ℕ) → List·Memᴰ k ks → List·Memᴰ k ks′) → ((k : ℕ) → List·Memᴰ k ks′ → List·Memᴰ k ks)
     → Holds t keys ks → Holds t keys ks′
 relist few to from h =
@@ -67,3 +67,7 @@ bare t keys size all =
       only = λ p lp. inl (all p lp);
       reach = λ p q lp lq l d. absurd (omega (arith, all p lp));
     }
+
+-- the index as it begins
+pub empty-holds : (keys : List ℕ) → Holds emptyIndex keys []
+empty-holds keys = bare emptyIndex keys refl (λ p lp. getD-replicate 512 p 65535 0 lp)

@@ -1,10 +1,10 @@
 // The index over the members (document 01, module 1): open addressing in 512 places, with no marks left by removal.
-// A place holds a key place, which is below KEYS, or EMPTY.
+// A place holds a member place, which is below KEYS, or EMPTY.
 ghost use mathlib.Core.Path.{_≡_};
-ghost use mathlib.Core.List.{List, []};
+ghost use mathlib.Core.List.{List};
 ghost use Prim.Native.Nat.{ℕ, _<_};
 ghost use lib.ListN.{set};
-ghost use Rattle.index.specs.Table.{Holds, Closed, Removed, dist, home};
+ghost use Rattle.index.specs.Table.{emptyIndex, Holds, Closed, Removed, dist, home};
 ghost use Rattle.index.specs.Agree.{Decides, FoundIn, FoundKey, PlaceOk, KeyOk, Lists};
 ghost use Rattle.index.specs.Search.{search as searched};
 
@@ -16,7 +16,7 @@ pub const EMPTY: u16 = 65535;
 #[repr(C)]
 pub struct KeyPlace(pub u16);
 
-// What a search finds: the member's place in the index, its key place and how many places were looked at;
+// What a search finds: the member's place in the index, its member place and how many places were looked at;
 // or the first empty place, and how many were looked at.
 pub enum Found {
     At(usize, KeyPlace, usize),
@@ -25,7 +25,7 @@ pub enum Found {
 
 // The index with every place empty.
 pub fn empty() -> [u16; 512]
-    ensures { λ r. ⌜ ((keys : List ℕ) → Holds r keys []) ⌝ }
+    ensures { λ r. ⌜ r ≡ emptyIndex ⌝ }
 {
     [EMPTY; 512]
 }
@@ -65,7 +65,7 @@ pub fn find<'a>(index: &'a [u16; 512], keys: &'a [u64; 256], member: u64) -> Fou
     Found::Absent(place, looked)
 }
 
-// The key place `key` is put into the place `at`. Where that is past the end, nothing changes.
+// The member place `key` is put into the place `at`. Where that is past the end, nothing changes.
 pub fn insert(index: &mut [u16; 512], at: usize, key: KeyPlace)
     ensures { λ _. ⌜ now (index .exit) ≡ set (now (index .entry)) at (key .0) ⌝ }
 {
@@ -121,7 +121,7 @@ fn found_in(found: Found, at: usize) -> bool
     }
 }
 
-// Whether a search found the key place `key`.
+// Whether a search found the member place `key`.
 fn found_key(found: Found, key: u16) -> bool
     ensures { λ r. ⌜ Decides r (FoundKey key found) ⌝ }
 {
@@ -134,7 +134,7 @@ fn found_key(found: Found, key: u16) -> bool
     }
 }
 
-// Whether a place is empty, or holds a key place in use whose member is found there.
+// Whether a place is empty, or holds a member place in use whose member is found there.
 fn place_ok<'a>(
     index: &'a [u16; 512],
     keys: &'a [u64; 256],
@@ -161,7 +161,7 @@ fn place_ok<'a>(
     }
 }
 
-// Whether a key place is not in use, or its member is found under it.
+// Whether a member place is not in use, or its member is found under it.
 fn key_ok<'a>(index: &'a [u16; 512], keys: &'a [u64; 256], used: &'a [bool; 256], key: u16) -> bool
     requires { ⌜ key < 256 ⌝ }
     ensures { λ r. ⌜ Decides r (KeyOk (now (index .entry)) (now (keys .entry)) (now (used .entry)) key) ⌝ }
@@ -176,7 +176,7 @@ fn key_ok<'a>(index: &'a [u16; 512], keys: &'a [u64; 256], used: &'a [bool; 256]
     }
 }
 
-// Whether the index holds exactly the key places in use.
+// Whether the index holds exactly the member places in use.
 pub fn agrees<'a>(index: &'a [u16; 512], keys: &'a [u64; 256], used: &'a [bool; 256]) -> bool
     ensures { λ r. ⌜ ((ks : List ℕ) → Lists (now (used .entry)) ks → Decides r (Holds (now (index .entry)) (now (keys .entry)) ks)) ⌝ }
 {

@@ -3,7 +3,7 @@
 use index::Found;
 use index::KeyPlace;
 
-// The members' numbers, which key places are in use, and the index over them.
+// The members' numbers, which member places are in use, and the index over them.
 struct Members {
     index: [u16; 512],
     keys: [u64; 256],
@@ -51,7 +51,7 @@ fn print_find(m: Members, member: u64) {
     io::write_all(1, b"\n");
 }
 
-// The member joins in the key place `key`, unless it is there already.
+// The member joins in the member place `key`, unless it is there already.
 fn join(m: Members, member: u64, key: u16) -> Members {
     let mut out = m;
     let index = out.index;
@@ -105,7 +105,7 @@ fn print_agrees(m: Members) {
     }
 }
 
-// The member number of a key place. The first eight start at 510, 510, 510, 511, 0, 511, 4 and 3.
+// The member number of a member place. The first eight start at 510, 510, 510, 511, 0, 511, 4 and 3.
 fn number(i: u16) -> u64 {
     match i {
         0 => 412,

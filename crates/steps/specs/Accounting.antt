@@ -10,7 +10,7 @@ use Rattle.steps.specs.Call.{Call, Answer, Outcome, refused, none, done,
 use Rattle.steps.specs.Call.{append, insert, insert-all, remove, remove-all, entry, occupied-append, occupied-insert, occupied-remove-entry, vacant-insert, pop-front, pop-back, retain, pack-to, clear, get, get-all, entry-len, contains-key, keys, keys-len, values-len, iter, taken}
 use Rattle.steps.specs.Step.{step}
 
--- how many of a test's elements a list has
+-- how many elements of a list pass a test
 abbrev pub times : {A : Type 0} → (A → Bool) → List A → ℕ
 times f l = length (filter f l)
 
@@ -45,7 +45,7 @@ pub record Flow : Type 0 where
 abbrev flow : ℕ → ℕ → ℕ → Flow
 flow a h d = record { accepted = a; handed = h; dropped = d }
 
--- the rounds that a call accepts, hands out and drops that is not refused, from the state before it and its answer
+-- the rounds that a call which is not refused accepts, hands out and drops, by the state before it and its answer
 unfoldable pub moved : Call → State → Answer → Flow
 moved (append k v) s a = flow 1 0 0
 moved (insert k v) s a = flow 1 (roundsIn a) (length (rounds k (s .pairs)) - 1)

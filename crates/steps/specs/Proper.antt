@@ -1,4 +1,4 @@
--- What holds of P and K from the empty state on (document 01, modules 6 and "Believing K follows from P").
+-- What holds of P, K and T from the empty state on: what module 6 of document 01 asks of them, and the limits of a map.
 use mathlib.Core.Path.{_≡_}
 use mathlib.Core.Bool.{Bool, cond}
 use Prim.Native.Nat.{ℕ, _≤_}

@@ -87,7 +87,7 @@ abbrev pub entryOf : Bool → ℕ → State → Answer
 entryOf true k s = occupied (length (rounds k (s .pairs)))
 entryOf false k s = vacant k
 
--- what a call does that is not refused
+-- what a call does where it is not refused
 unfoldable pub act : Call → State → Outcome × State
 act (append k v) s = (say (present (St.present k s)), add k v s)
 act (insert k v) s = (say (first (rounds k (s .pairs))), replace k v s)

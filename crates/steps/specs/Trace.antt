@@ -62,6 +62,7 @@ module _ {Map : Type 0} (M : Kind Map) where
     pub state : M .abs m′ ≡ after cs empty
     pub linked : M .Linked m′
     pub linked-all : Along (λ c m o m′. M .Linked m′) t
+    -- accepted = held + handed out + dropped
     pub balanced : flowAlong t .accepted ≡ length (M .abs m′ .pairs) + flowAlong t .handed + flowAlong t .dropped
     -- T is the accepted rounds, or its ceiling
     pub counted : M .abs m′ .taken ≡ min (flowAlong t .accepted) maxTaken

@@ -2,9 +2,12 @@
 use Prim.Native.Nat.{ℕ, _-_, _<_}
 use mathlib.Core.Path.{sym, ap, _∙_, subst}
 use mathlib.Core.Logic.{⊎-elim}
+use mathlib.Core.List.{List, []}
 use native.Mathlib.Omega.{arith}
 use borrow.Author.Needs.{needs}
 use lib.ListN.{length}
+use Rattle.index.specs.Table.{Holds}
+use Rattle.index.proofs.Table.{empty-holds}
 use Rattle.image.specs.Members.{endOf}
 use Rattle.image.proofs.Gathers.{Gather, gather-none, gather-one, gather-many, gather-all, end-fits}
 use Rattle.image.proofs.gather.Statement.{statement}
@@ -24,7 +27,7 @@ empty-requires : tie.Need-empty-requires Inv-loop μ-loop
 empty-requires c κs = search needs
 
 loop-holds : tie.Need-loop-holds Inv-loop μ-loop
-loop-holds c = gather-none _ _ _ _ (omega arith) (omega arith) (c .empty .ensures _)
+loop-holds c = gather-none _ _ _ _ (omega arith) (omega arith) (subst (λ (t : List ℕ). Holds t _ []) (sym (c .empty .ensures)) (empty-holds _))
 
 mul-member : tie.Need-mul-member Inv-loop μ-loop
 mul-member c = search needs

@@ -1,4 +1,4 @@
--- `index::agrees` meets its contract. The loops' invariants: each place passed is right, and then each key place passed.
+-- `index::agrees` meets its contract. The loops' invariants: each place passed is right, and then each member place passed.
 -- Assumes nothing.
 use mathlib.Core.Path.{_≡_}
 use Prim.Native.Nat.{ℕ, _-_, _≤_, _<_}

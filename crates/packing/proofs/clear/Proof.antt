@@ -1,5 +1,10 @@
 -- `packing::clear` meets its contract. Assumes nothing.
+use mathlib.Core.Path.{sym, subst}
+use mathlib.Core.List.{List, []}
+use Prim.Native.Nat.{ℕ}
 use borrow.Author.Needs.{needs}
+use Rattle.index.specs.Table.{Holds}
+use Rattle.index.proofs.Table.{empty-holds}
 use Rattle.multimap.proofs.Sizes.{sized}
 use Rattle.packing.proofs.Clears.{cleared}
 use Rattle.packing.proofs.clear.Statement.{statement}
@@ -21,7 +26,9 @@ element-set-from-out-4 : tie.Need-element-set-from-out-4
 element-set-from-out-4 c = search needs
 
 returns : tie.Need-returns
-returns c = cleared (c .before .args .m) (c .before .pre) (sized (c .before .args .m) (c .before .good .0)) (c .empty .result) (c .empty .ensures (c .before .args .m .keys))
+returns c =
+    cleared (c .before .args .m) (c .before .pre) (sized (c .before .args .m) (c .before .good .0)) (c .empty .result)
+    (subst (λ (t : List ℕ). Holds t (c .before .args .m .keys) []) (sym (c .empty .ensures)) (empty-holds (c .before .args .m .keys)))
 
 pub clear-spec : {M : Type 1} → statement M
 clear-spec =
