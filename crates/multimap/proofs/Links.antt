@@ -33,7 +33,7 @@ module _ (m : ListOrderedMultimap) (g : WellLinked m) where
   abbrev vs : List ℕ
   vs = order (roundsOf m)
 
-  short : (x : ℕ) → length (recordIn (linksOf m) x) ≤ 1024
+  short : (x : ℕ) → length (recordIn (linksOf m) x) ≤ 1025
   short x = omega (arith, length-keep (λ q. eqb (keyAt (m .«key_index») q) x) vs, length-order (roundsOf m), g .chained .rounds .some-used, g .chained .rounds .some-fresh)
 
   pub connected : Connected m
@@ -42,13 +42,13 @@ module _ (m : ListOrderedMultimap) (g : WellLinked m) where
       front : (k : ℕ) (r : Found) → search (m .index) (m .keys) k ≡ r → fromHead m r ≡ placesOf m k
       front k (At p x n) e =
           let w = found m g k p n x e in
-          record-from-front (linksOf m) (g .chained) (x .0) (w .member) 1024 (short (x .0)) ∙ places-are m g k (x .0) (w .member) (w .number)
+          record-from-front (linksOf m) (g .chained) (x .0) (w .member) 1025 (short (x .0)) ∙ places-are m g k (x .0) (w .member) (w .number)
       front k (Absent p n) e = sym (no-places m g k (says-absent (m .index) (m .keys) ks k (g .index) p n e .1))
 
       back : (k : ℕ) (r : Found) → search (m .index) (m .keys) k ≡ r → fromTail m r ≡ reverse (placesOf m k)
       back k (At p x n) e =
           let w = found m g k p n x e in
-          record-from-back (linksOf m) (g .chained) (x .0) (w .member) 1024 (short (x .0)) ∙ ap reverse (places-are m g k (x .0) (w .member) (w .number))
+          record-from-back (linksOf m) (g .chained) (x .0) (w .member) 1025 (short (x .0)) ∙ ap reverse (places-are m g k (x .0) (w .member) (w .number))
       back k (Absent p n) e = sym (ap reverse (no-places m g k (says-absent (m .index) (m .keys) ks k (g .index) p n e .1)))
 
   has-places : (k : ℕ) → has k (pairs m) ≡ nonempty (map (pairAt m) (placesOf m k))

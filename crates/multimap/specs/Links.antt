@@ -20,14 +20,15 @@ use Rattle.multimap.specs.declared.ListOrderedMultimap.{ListOrderedMulti
 abbrev pub placesOf : ListOrderedMultimap → ℕ → List ℕ
 placesOf m k = keep (λ q. of k (pairAt m q)) (order (roundsOf m))
 
--- The round places met from the head by next until there is no next; a number that is not in the index has no head.
+-- The round places met from the head by next until there is no next, which shows within one more than a map has rounds; a number that is
+-- not in the index has no head.
 abbrev pub fromHead : ListOrderedMultimap → Found → List ℕ
-fromHead m (At p x n) = follow (valueAt (m .«next_index»)) (1024 + x .0) (valueAt (m .«next_index») (1024 + x .0)) maxRounds
+fromHead m (At p x n) = follow (valueAt (m .«next_index»)) (1024 + x .0) (valueAt (m .«next_index») (1024 + x .0)) (maxRounds + 1)
 fromHead m (Absent p n) = []
 
 -- The same from the tail by previous.
 abbrev pub fromTail : ListOrderedMultimap → Found → List ℕ
-fromTail m (At p x n) = follow (valueAt (m .«previous_index»)) (1024 + x .0) (valueAt (m .«previous_index») (1024 + x .0)) maxRounds
+fromTail m (At p x n) = follow (valueAt (m .«previous_index»)) (1024 + x .0) (valueAt (m .«previous_index») (1024 + x .0)) (maxRounds + 1)
 fromTail m (Absent p n) = []
 
 -- For every number, the links from the front meet the places of its pairs in order, and from the back the same backwards.
