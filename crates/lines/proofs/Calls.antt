@@ -3,6 +3,7 @@ use Prim.Native.Nat.{ℕ, suc, _+_, _-_, _≤_, _<_, min}
 use mathlib.Core.Path.{_≡_, refl, sym, ap, _∙_}
 use mathlib.Core.List.{List, [], _∷_, _++_, map}
 use mathlib.Core.Bool.{Bool, true, false}
+use mathlib.Core.Option.{Option, some}
 use native.Mathlib.Omega.{arith}
 use native.Mathlib.Numerals.{add-one}
 use borrow.Author.Tests.{leb-true, leb-false}
@@ -13,6 +14,7 @@ use Rattle.steps.specs.State.{State}
 use Rattle.steps.specs.Call.{Call, Outcome, Lent, retain}
 use Rattle.steps.specs.Step.{step, over}
 use Rattle.steps.specs.Trace.{Does}
+use Rattle.steps.specs.Accounting.{isRefused}
 use Rattle.multimap.specs.Map.{stateOf}
 use Rattle.multimap.specs.WellLinked.{WellLinked, linked}
 use Rattle.multimap.specs.declared.ListOrderedMultimap.{ListOrderedMultimap}
@@ -21,21 +23,26 @@ use Rattle.parsing.specs.Told.{told}
 use Rattle.parsing.specs.declared.Request.{Request}
 use Rattle.parsing.proofs.Forms.{line-long}
 use Rattle.lines.specs.Put.{Put}
-use Rattle.lines.specs.Answer.{textOf, reply, answerOf}
+use Rattle.lines.specs.Answer.{textOf, reply, answerOf, callOf}
 use Rattle.lines.specs.declared.Answered.{Answered}
 use Rattle.lines.specs.Said.{Said, Replied, Roomy}
 use Rattle.lines.proofs.Puts.{ToCome, put-join, put-long, come-less, come-none}
 use Rattle.lines.proofs.Sayings.{said-as}
 
 -- the outcome is that of the step, and so is its text
-pub replied : {c : Call} {m m′ : ListOrderedMultimap} {o : Outcome} {was out : List ℕ} {n : ℕ} (counted : Lent → ℕ → List ℕ) → Does linked c m o m′
-    → Said was (textOf (counted (o .slices)) (o .answer)) out n → Replied (reply counted (step c (stateOf m))) was out (record { map = m′; count = n })
-replied counted d s =
+pub replied : {l : Line} {c : Call} {m m′ : ListOrderedMultimap} {o : Outcome} {was out : List ℕ} {n : ℕ} (counted : Lent → ℕ → List ℕ)
+    → answerOf l (stateOf m) ≡ reply counted (step c (stateOf m)) → callOf l ≡ some c → Does linked c m o m′
+    → Said was (textOf (counted (o .slices)) (o .answer)) out n → Replied l m was out (record { map = m′; count = n })
+replied {l} {c} {m} {m′} {o} counted e f d s =
     record {
-      said = said-as s (ap (λ (o : Outcome). textOf (counted (o .slices)) (o .answer)) (d .outcome));
-      state = d .state;
+      said = said-as s (ap (λ (o : Outcome). textOf (counted (o .slices)) (o .answer)) (d .outcome) ∙ sym (ap (λ (x : List ℕ × State). x .0) e));
+      state = d .state ∙ sym (ap (λ (x : List ℕ × State). x .1) e);
       linked = d .linked;
+      same = λ c′ g h. d .same (ap (λ (o : Outcome). isRefused (o .answer)) (d .outcome) ∙ refused-as c′ (sym f ∙ g) h);
     }
+  where
+    refused-as : (c′ : Call) → _≡_ {A = Option Call} (some c) (some c′) → isRefused (step c′ (stateOf m) .0 .answer) ≡ true → isRefused (step c (stateOf m) .0 .answer) ≡ true
+    refused-as c′ g h = let j : c ≡ c′ = cc in rw j h
 
 -- ---- marks
 
@@ -68,8 +75,8 @@ does-marks d e = rw e at d
 
 -- ---- lines
 
-pub replied-as : {l l′ : Line} (s : State) {was out : List ℕ} {r : Answered} → Replied (answerOf l s) was out r → l ≡ l′ → Replied (answerOf l′ s) was out r
-replied-as s p e = rw e at p
+pub replied-as : {l l′ : Line} (m : ListOrderedMultimap) {was out : List ℕ} {r : Answered} → Replied l m was out r → l ≡ l′ → Replied l′ m was out r
+replied-as m p e = rw e at p
 
 -- what a form is told to be, the line is
 pub asked : {q q′ : Request} (l : List ℕ) → told q l ≡ lineOf l → q ≡ q′ → told q′ l ≡ lineOf l

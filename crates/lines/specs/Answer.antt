@@ -3,11 +3,14 @@ use Prim.Native.Nat.{ℕ, _≤_}
 use mathlib.Core.Path.{_≡_}
 use mathlib.Core.Bool.{Bool, true, false, cond}
 use mathlib.Core.List.{List, [], _∷_, _++_}
+use mathlib.Core.Option.{Option, some}
+use mathlib.Core.Option as Opt
 use lib.ListN.{length, take, replicate}
 use Rattle.steps.specs.State.{State}
-use Rattle.steps.specs.Call.{Answer, Outcome, Lent, refused, none, done, round, count, present, popped, occupied, vacant}
+use Rattle.steps.specs.Call.{Call, Answer, Outcome, Lent, refused, none, done, round, count, present, popped, occupied, vacant}
 use Rattle.steps.specs.Call as C
 use Rattle.steps.specs.Step.{step, over}
+use Rattle.steps.specs.Accounting.{isRefused}
 use Rattle.multimap.specs.Map.{stateOf}
 use Rattle.multimap.specs.WellLinked.{WellLinked}
 use Rattle.multimap.specs.declared.ListOrderedMultimap.{ListOrderedMultimap}
@@ -96,12 +99,28 @@ answerOf lists s = reply listed (step (C.iter blank blank) s)
 answerOf members s = reply keyed (step (C.keys blank) s)
 answerOf bad s = (badText, s)
 
+-- the call that a line makes, if it makes one
+abbrev pub callOf : Line → Option Call
+callOf (adds k v) = some (C.append k v)
+callOf (inserts k v) = some (C.insert-all k v blank)
+callOf (removes k) = some (C.remove-all k blank)
+callOf front = some C.pop-front
+callOf back = some C.pop-back
+callOf (keeps marks) = some (C.retain marks)
+callOf lists = some (C.iter blank blank)
+callOf members = some (C.keys blank)
+callOf bad = Opt.none
+
+-- where the line's call is refused, the map is the very one that it was given
+abbrev pub RefusedSame : Line → ListOrderedMultimap → ListOrderedMultimap → Type 0
+RefusedSame l m m′ = (c : Call) → callOf l ≡ some c → isRefused (step c (stateOf m) .0 .answer) ≡ true → m′ ≡ m
+
 -- the bytes that a line prints, with their line end
 abbrev pub printed : List ℕ → State → List ℕ
 printed line s = answerOf (lineOf line) s .0 ++ (10 ∷ [])
 
 -- what answering a line does: the printed bytes are at the front of `out`, the others are kept, and they are counted; the map given back
--- is well-linked and has the state after the line
+-- is well-linked and has the state after the line, and a refused line gives back its very map
 pub record Answers (line : List ℕ) (m : ListOrderedMultimap) (was out : List ℕ) (r : Answered) : Type 0 where
   pub bytes : out ≡ over (printed line (stateOf m)) was
   pub count : r .count ≡ length (printed line (stateOf m))
@@ -109,3 +128,4 @@ pub record Answers (line : List ℕ) (m : ListOrderedMultimap) (was out : List �
   pub most : r .count ≤ 43013
   pub state : stateOf (r .map) ≡ answerOf (lineOf line) (stateOf m) .1
   pub linked : WellLinked (r .map)
+  pub same : RefusedSame (lineOf line) m (r .map)

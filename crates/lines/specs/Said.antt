@@ -3,10 +3,12 @@ use Prim.Native.Nat.{ℕ, _<_, _≤_}
 use mathlib.Core.Path.{_≡_}
 use mathlib.Core.List.{List}
 use lib.ListN.{length}
-use Rattle.steps.specs.State.{State}
 use Rattle.multimap.specs.Map.{stateOf}
 use Rattle.multimap.specs.WellLinked.{WellLinked}
+use Rattle.multimap.specs.declared.ListOrderedMultimap.{ListOrderedMultimap}
+use Rattle.parsing.specs.Line.{Line}
 use Rattle.lines.specs.Put.{Put}
+use Rattle.lines.specs.Answer.{answerOf, RefusedSame}
 use Rattle.lines.specs.declared.Answered.{Answered}
 
 -- the longest printed line, with its line end: `list` and 1,024 pairs of two numbers of 20 digits
@@ -21,8 +23,9 @@ pub record Said (was text out : List ℕ) (r : ℕ) : Type 0 where
   pub put : Put was 0 text out r
   pub room : r < maxPrinted
 
--- the text and the state after a line
-pub record Replied (d : List ℕ × State) (was out : List ℕ) (r : Answered) : Type 0 where
-  pub said : Said was (d .0) out (r .count)
-  pub state : stateOf (r .map) ≡ d .1
+-- the text of the line l on the map m, and the map after it
+pub record Replied (l : Line) (m : ListOrderedMultimap) (was out : List ℕ) (r : Answered) : Type 0 where
+  pub said : Said was (answerOf l (stateOf m) .0) out (r .count)
+  pub state : stateOf (r .map) ≡ answerOf l (stateOf m) .1
   pub linked : WellLinked (r .map)
+  pub same : RefusedSame l m (r .map)

@@ -15,17 +15,15 @@ ghost use Prim.Native.Nat.{_≤_};
 ghost use mathlib.Core.Path.{_≡_};
 ghost use mathlib.Core.List.{map};
 ghost use lib.ListN.{length};
-ghost use Rattle.multimap.specs.Map.{stateOf};
 ghost use Rattle.multimap.specs.WellLinked.{WellLinked};
 ghost use Rattle.parsing.specs.Line as Line;
 ghost use Rattle.parsing.specs.Told.{told};
 ghost use Rattle.lines.specs.Put.{Put};
-ghost use Rattle.lines.specs.Answer.{answerOf};
 ghost use Rattle.lines.specs.Said.{Roomy, Replied};
 
 fn adds(m: ListOrderedMultimap, k: u64, v: u64, out: &mut [u8]) -> Answered
     requires { ⌜ WellLinked m × Roomy (now out) ⌝ }
-    ensures { λ r. ⌜ Replied (answerOf (Line.adds k v) (stateOf m)) (now (out .entry)) (now (out .exit)) r ⌝ }
+    ensures { λ r. ⌜ Replied (Line.adds k v) m (now (out .entry)) (now (out .exit)) r ⌝ }
 {
     let done = ordered_multimap::append(m, k, v);
     let answer = done.answer;
@@ -36,7 +34,7 @@ fn adds(m: ListOrderedMultimap, k: u64, v: u64, out: &mut [u8]) -> Answered
 
 fn inserts(m: ListOrderedMultimap, k: u64, v: u64, out: &mut [u8]) -> Answered
     requires { ⌜ WellLinked m × Roomy (now out) ⌝ }
-    ensures { λ r. ⌜ Replied (answerOf (Line.inserts k v) (stateOf m)) (now (out .entry)) (now (out .exit)) r ⌝ }
+    ensures { λ r. ⌜ Replied (Line.inserts k v) m (now (out .entry)) (now (out .exit)) r ⌝ }
 {
     let mut rounds = [0u64; 1024];
     let done = ordered_multimap::insert_all(m, k, v, &mut rounds);
@@ -48,7 +46,7 @@ fn inserts(m: ListOrderedMultimap, k: u64, v: u64, out: &mut [u8]) -> Answered
 
 fn removes(m: ListOrderedMultimap, k: u64, out: &mut [u8]) -> Answered
     requires { ⌜ WellLinked m × Roomy (now out) ⌝ }
-    ensures { λ r. ⌜ Replied (answerOf (Line.removes k) (stateOf m)) (now (out .entry)) (now (out .exit)) r ⌝ }
+    ensures { λ r. ⌜ Replied (Line.removes k) m (now (out .entry)) (now (out .exit)) r ⌝ }
 {
     let mut rounds = [0u64; 1024];
     let done = ordered_multimap::remove_all(m, k, &mut rounds);
@@ -60,7 +58,7 @@ fn removes(m: ListOrderedMultimap, k: u64, out: &mut [u8]) -> Answered
 
 fn front(m: ListOrderedMultimap, out: &mut [u8]) -> Answered
     requires { ⌜ WellLinked m × Roomy (now out) ⌝ }
-    ensures { λ r. ⌜ Replied (answerOf Line.front (stateOf m)) (now (out .entry)) (now (out .exit)) r ⌝ }
+    ensures { λ r. ⌜ Replied Line.front m (now (out .entry)) (now (out .exit)) r ⌝ }
 {
     let done = ordered_multimap::pop_front(m);
     let answer = done.answer;
@@ -71,7 +69,7 @@ fn front(m: ListOrderedMultimap, out: &mut [u8]) -> Answered
 
 fn back(m: ListOrderedMultimap, out: &mut [u8]) -> Answered
     requires { ⌜ WellLinked m × Roomy (now out) ⌝ }
-    ensures { λ r. ⌜ Replied (answerOf Line.back (stateOf m)) (now (out .entry)) (now (out .exit)) r ⌝ }
+    ensures { λ r. ⌜ Replied Line.back m (now (out .entry)) (now (out .exit)) r ⌝ }
 {
     let done = ordered_multimap::pop_back(m);
     let answer = done.answer;
@@ -101,7 +99,7 @@ fn copy_marks(marks: &mut [u8], bytes: &[u8]) -> usize
 
 fn keeps(m: ListOrderedMultimap, bytes: &[u8], out: &mut [u8]) -> Answered
     requires { ⌜ WellLinked m × Roomy (now out) × (length (now bytes) ≤ 1100) ⌝ }
-    ensures { λ r. ⌜ Replied (answerOf (Line.keeps (map Line.markOf (now (bytes .entry)))) (stateOf m)) (now (out .entry)) (now (out .exit)) r ⌝ }
+    ensures { λ r. ⌜ Replied (Line.keeps (map Line.markOf (now (bytes .entry)))) m (now (out .entry)) (now (out .exit)) r ⌝ }
 {
     let mut marks = [0u8; 1100];
     let n = copy_marks(&mut marks, bytes);
@@ -114,7 +112,7 @@ fn keeps(m: ListOrderedMultimap, bytes: &[u8], out: &mut [u8]) -> Answered
 
 fn lists(m: ListOrderedMultimap, out: &mut [u8]) -> Answered
     requires { ⌜ WellLinked m × Roomy (now out) ⌝ }
-    ensures { λ r. ⌜ Replied (answerOf Line.lists (stateOf m)) (now (out .entry)) (now (out .exit)) r ⌝ }
+    ensures { λ r. ⌜ Replied Line.lists m (now (out .entry)) (now (out .exit)) r ⌝ }
 {
     let mut members = [0u64; 1024];
     let mut rounds = [0u64; 1024];
@@ -125,7 +123,7 @@ fn lists(m: ListOrderedMultimap, out: &mut [u8]) -> Answered
 
 fn members(m: ListOrderedMultimap, out: &mut [u8]) -> Answered
     requires { ⌜ WellLinked m × Roomy (now out) ⌝ }
-    ensures { λ r. ⌜ Replied (answerOf Line.members (stateOf m)) (now (out .entry)) (now (out .exit)) r ⌝ }
+    ensures { λ r. ⌜ Replied Line.members m (now (out .entry)) (now (out .exit)) r ⌝ }
 {
     let mut members = [0u64; 1024];
     let answer = ordered_multimap::keys(m, &mut members);
@@ -135,7 +133,7 @@ fn members(m: ListOrderedMultimap, out: &mut [u8]) -> Answered
 
 fn bad(m: ListOrderedMultimap, out: &mut [u8]) -> Answered
     requires { ⌜ WellLinked m × Roomy (now out) ⌝ }
-    ensures { λ r. ⌜ Replied (answerOf Line.bad (stateOf m)) (now (out .entry)) (now (out .exit)) r ⌝ }
+    ensures { λ r. ⌜ Replied Line.bad m (now (out .entry)) (now (out .exit)) r ⌝ }
 {
     let count = print_word(out, b"line?");
     Answered { map: m, count }
@@ -144,7 +142,7 @@ fn bad(m: ListOrderedMultimap, out: &mut [u8]) -> Answered
 // What the line asks, done and printed.
 pub(crate) fn ask(m: ListOrderedMultimap, request: Request, line: &[u8], out: &mut [u8]) -> Answered
     requires { ⌜ WellLinked m × Roomy (now out) × (told request (now line) ≡ Line.lineOf (now line)) ⌝ }
-    ensures { λ r. ⌜ Replied (answerOf (Line.lineOf (now (line .entry))) (stateOf m)) (now (out .entry)) (now (out .exit)) r ⌝ }
+    ensures { λ r. ⌜ Replied (Line.lineOf (now (line .entry))) m (now (out .entry)) (now (out .exit)) r ⌝ }
 {
     match request {
         Request::Adds(k, v) => adds(m, k, v, out),

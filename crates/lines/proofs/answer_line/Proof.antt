@@ -28,7 +28,7 @@ returns c =
     let a = c .before .ask .ensures in
     let s = c .before .before .before .before .before in
     let h : 43013 ≤ length (s .args .out .now) = omega (arith, c .before .before .before .before) in
-    record { bytes = ended-bytes (a .said) h; count = ended-count (a .said) h; room = ended-room (a .said) h; most = ended-most (a .said) h; state = a .state; linked = a .linked }
+    record { bytes = ended-bytes (a .said) h; count = ended-count (a .said) h; room = ended-room (a .said) h; most = ended-most (a .said) h; state = a .state; linked = a .linked; same = a .same }
 
 pub answer-line-spec : {M : Type 1} → statement M
 answer-line-spec =

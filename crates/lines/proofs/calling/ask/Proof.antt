@@ -4,7 +4,6 @@ use mathlib.Core.List.{List, map}
 use Prim.Native.Nat.{ℕ}
 use native.Mathlib.Omega.{arith}
 use lib.ListN.{length, length-drop}
-use Rattle.multimap.specs.Map.{stateOf}
 use Rattle.parsing.specs.Line.{keeps, markOf}
 use Rattle.lines.proofs.Calls.{replied-as, asked, keeps-short, marks-part}
 use borrow.Author.Needs.{needs}
@@ -102,7 +101,7 @@ same-length c = search needs
 returns : tie.Need-returns
 returns c =
     let s = c .before .before .before .before .before .before .before .before .before in
-    replied-as (stateOf (s .args .m)) (c .before .before .adds .ensures) (asked (s .args .line .now) (s .pre .2) (c .before .before .before .before .before .request .given .1))
+    replied-as (s .args .m) (c .before .before .adds .ensures) (asked (s .args .line .now) (s .pre .2) (c .before .before .before .before .before .request .given .1))
 
 same-length-2 : tie.Need-same-length-2
 same-length-2 c = search needs
@@ -110,7 +109,7 @@ same-length-2 c = search needs
 returns-2 : tie.Need-returns-2
 returns-2 c =
     let s = c .before .before .before .before .before .before .before .before .before in
-    replied-as (stateOf (s .args .m)) (c .before .before .inserts .ensures) (asked (s .args .line .now) (s .pre .2) (c .before .before .before .before .before .request2 .given .1))
+    replied-as (s .args .m) (c .before .before .inserts .ensures) (asked (s .args .line .now) (s .pre .2) (c .before .before .before .before .before .request2 .given .1))
 
 same-length-3 : tie.Need-same-length-3
 same-length-3 c = search needs
@@ -118,7 +117,7 @@ same-length-3 c = search needs
 returns-3 : tie.Need-returns-3
 returns-3 c =
     let s = c .before .before .before .before .before .before .before .before .before in
-    replied-as (stateOf (s .args .m)) (c .before .before .removes .ensures) (asked (s .args .line .now) (s .pre .2) (c .before .before .before .before .before .request3 .given .1))
+    replied-as (s .args .m) (c .before .before .removes .ensures) (asked (s .args .line .now) (s .pre .2) (c .before .before .before .before .before .request3 .given .1))
 
 same-length-4 : tie.Need-same-length-4
 same-length-4 c = search needs
@@ -126,7 +125,7 @@ same-length-4 c = search needs
 returns-4 : tie.Need-returns-4
 returns-4 c =
     let s = c .before .before .before .before .before .before .before .before in
-    replied-as (stateOf (s .args .m)) (c .before .before .front .ensures) (asked (s .args .line .now) (s .pre .2) (c .before .before .before .before .enum-told .given .1))
+    replied-as (s .args .m) (c .before .before .front .ensures) (asked (s .args .line .now) (s .pre .2) (c .before .before .before .before .enum-told .given .1))
 
 same-length-5 : tie.Need-same-length-5
 same-length-5 c = search needs
@@ -134,7 +133,7 @@ same-length-5 c = search needs
 returns-5 : tie.Need-returns-5
 returns-5 c =
     let s = c .before .before .before .before .before .before .before .before in
-    replied-as (stateOf (s .args .m)) (c .before .before .back .ensures) (asked (s .args .line .now) (s .pre .2) (c .before .before .before .before .enum-told2 .given .1))
+    replied-as (s .args .m) (c .before .before .back .ensures) (asked (s .args .line .now) (s .pre .2) (c .before .before .before .before .enum-told2 .given .1))
 
 same-length-6 : tie.Need-same-length-6
 same-length-6 c = search needs
@@ -142,7 +141,7 @@ same-length-6 c = search needs
 returns-6 : tie.Need-returns-6
 returns-6 c =
     let s = c .before .before .before .before .before .before .before .before .before .before in
-    replied-as (stateOf (s .args .m)) (c .before .before .keeps .ensures) (ap (λ (l : List ℕ). keeps (map markOf l)) (marks-part (s .args .line .now) (c .before .before .before .before .before .least .result) (c .before .before .before .before .before .least .ensures)) ∙ asked (s .args .line .now) (s .pre .2) (c .before .before .before .before .before .before .enum-told3 .given .1))
+    replied-as (s .args .m) (c .before .before .keeps .ensures) (ap (λ (l : List ℕ). keeps (map markOf l)) (marks-part (s .args .line .now) (c .before .before .before .before .before .least .result) (c .before .before .before .before .before .least .ensures)) ∙ asked (s .args .line .now) (s .pre .2) (c .before .before .before .before .before .before .enum-told3 .given .1))
 
 same-length-7 : tie.Need-same-length-7
 same-length-7 c = search needs
@@ -150,7 +149,7 @@ same-length-7 c = search needs
 returns-7 : tie.Need-returns-7
 returns-7 c =
     let s = c .before .before .before .before .before .before .before .before in
-    replied-as (stateOf (s .args .m)) (c .before .before .lists .ensures) (asked (s .args .line .now) (s .pre .2) (c .before .before .before .before .enum-told4 .given .1))
+    replied-as (s .args .m) (c .before .before .lists .ensures) (asked (s .args .line .now) (s .pre .2) (c .before .before .before .before .enum-told4 .given .1))
 
 same-length-8 : tie.Need-same-length-8
 same-length-8 c = search needs
@@ -158,7 +157,7 @@ same-length-8 c = search needs
 returns-8 : tie.Need-returns-8
 returns-8 c =
     let s = c .before .before .before .before .before .before .before .before in
-    replied-as (stateOf (s .args .m)) (c .before .before .members .ensures) (asked (s .args .line .now) (s .pre .2) (c .before .before .before .before .enum-told5 .given .1))
+    replied-as (s .args .m) (c .before .before .members .ensures) (asked (s .args .line .now) (s .pre .2) (c .before .before .before .before .enum-told5 .given .1))
 
 same-length-9 : tie.Need-same-length-9
 same-length-9 c = search needs
@@ -166,7 +165,7 @@ same-length-9 c = search needs
 returns-9 : tie.Need-returns-9
 returns-9 c =
     let s = c .before .before .before .before .before .before .before .before in
-    replied-as (stateOf (s .args .m)) (c .before .before .bad .ensures) (asked (s .args .line .now) (s .pre .2) (c .before .before .before .before .enum-told6 .given .1))
+    replied-as (s .args .m) (c .before .before .bad .ensures) (asked (s .args .line .now) (s .pre .2) (c .before .before .before .before .enum-told6 .given .1))
 
 pub ask-spec : {M : Type 1} → statement M
 ask-spec =

@@ -19,7 +19,7 @@ same-length c = search needs
 
 returns : tie.Need-returns
 unfolding answerOf
-returns c = record { said = c .before .before .print-word .ensures; state = refl; linked = c .before .before .before .before .before .before .pre .0 }
+returns c = record { said = c .before .before .print-word .ensures; state = refl; linked = c .before .before .before .before .before .before .pre .0; same = λ d e f. refl }
 
 pub bad-spec : {M : Type 1} → statement M
 bad-spec = tie.close (tie.spec slice-aggregate-print-word print-word-requires same-length returns)

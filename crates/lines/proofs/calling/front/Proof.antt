@@ -1,4 +1,5 @@
 -- `lines::calling::front` meets its contract. Assumes nothing.
+use mathlib.Core.Path.{refl}
 use Rattle.lines.specs.Answer.{answerOf, kept}
 use Rattle.lines.proofs.Calls.{replied}
 use borrow.Author.Needs.{needs}
@@ -20,7 +21,7 @@ same-length c = search needs
 
 returns : tie.Need-returns
 unfolding answerOf
-returns c = replied kept (c .before .before .before .before .before .pop-front .ensures) (c .before .before .before .print-popped .ensures)
+returns c = replied kept refl refl (c .before .before .before .before .before .pop-front .ensures) (c .before .before .before .print-popped .ensures)
 
 pub front-spec : {M : Type 1} → statement M
 front-spec = tie.close (tie.spec pop-front-requires print-popped-requires same-length returns)

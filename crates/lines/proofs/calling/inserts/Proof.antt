@@ -1,4 +1,5 @@
 -- `lines::calling::inserts` meets its contract. Assumes nothing.
+use mathlib.Core.Path.{refl}
 use Rattle.lines.specs.Answer.{answerOf, old}
 use Rattle.lines.proofs.Calls.{replied}
 use borrow.Author.Needs.{needs}
@@ -26,7 +27,7 @@ same-length c = search needs
 
 returns : tie.Need-returns
 unfolding answerOf
-returns c = replied old (c .before .before .before .before .before .before .before .insert-all .ensures) (c .before .before .before .print-inserted .ensures)
+returns c = replied old refl refl (c .before .before .before .before .before .before .before .insert-all .ensures) (c .before .before .before .print-inserted .ensures)
 
 pub inserts-spec : {M : Type 1} → statement M
 inserts-spec =

@@ -1,6 +1,6 @@
 -- `lines::calling::keeps` meets its contract. Assumes nothing.
 use Prim.Native.Nat.{_≤_}
-use mathlib.Core.Path.{sym}
+use mathlib.Core.Path.{refl, sym}
 use mathlib.Core.List.{map}
 use native.Mathlib.Omega.{arith}
 use lib.ListN.{length, length-map}
@@ -54,7 +54,7 @@ returns c =
     let p = c .before .before .before .before .before .before .before .before in
     let s = c .before .before .before .before .before .before .before .before .before .before .before .before in
     let q = c .before .before .before .before .before .retain in
-    replied kept (does-marks (q .ensures) (put-front (p .copy-marks .ensures) (room p))) (c .before .before .before .print-kept .ensures)
+    replied kept refl refl (does-marks (q .ensures) (put-front (p .copy-marks .ensures) (room p))) (c .before .before .before .print-kept .ensures)
 
 pub keeps-spec : {M : Type 1} → statement M
 keeps-spec =

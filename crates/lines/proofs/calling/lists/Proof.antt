@@ -1,4 +1,5 @@
 -- `lines::calling::lists` meets its contract. Assumes nothing.
+use mathlib.Core.Path.{refl}
 use Rattle.lines.specs.Answer.{answerOf, listed}
 use Rattle.lines.proofs.Calls.{replied}
 use borrow.Author.Needs.{needs}
@@ -32,7 +33,7 @@ same-length c = search needs
 
 returns : tie.Need-returns
 unfolding answerOf
-returns c = replied listed (c .before .before .before .before .before .before .before .before .iter .ensures) (c .before .before .print-pairs .ensures)
+returns c = replied listed refl refl (c .before .before .before .before .before .before .before .before .iter .ensures) (c .before .before .print-pairs .ensures)
 
 pub lists-spec : {M : Type 1} → statement M
 lists-spec =

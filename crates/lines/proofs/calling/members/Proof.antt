@@ -1,4 +1,5 @@
 -- `lines::calling::members` meets its contract. Assumes nothing.
+use mathlib.Core.Path.{refl}
 use Rattle.lines.specs.Answer.{answerOf, keyed}
 use Rattle.lines.proofs.Calls.{replied}
 use borrow.Author.Needs.{needs}
@@ -26,7 +27,7 @@ same-length c = search needs
 
 returns : tie.Need-returns
 unfolding answerOf
-returns c = replied keyed (c .before .before .before .before .before .before .keys .ensures) (c .before .before .print-members .ensures)
+returns c = replied keyed refl refl (c .before .before .before .before .before .before .keys .ensures) (c .before .before .print-members .ensures)
 
 pub members-spec : {M : Type 1} → statement M
 members-spec =
