@@ -14,7 +14,8 @@ use Rattle.links.proofs.Lists.{length-order, in-array, last-in, at-most-root, p
 use Rattle.links.proofs.Chains.{added-chained, tail-fits, size-in}
 use Rattle.multimap.specs.Map.{at, keyAt, valueAt, roundsOf, membersOf, linksOf}
 use Rattle.multimap.specs.declared.ListOrderedMultimap.{ListOrderedMultimap}
-use Rattle.multimap.proofs.Stores.{at-set, key-set, key-set₂, value-set, value-set₂, Sized, places-eq, links-eq}
+use Rattle.multimap.proofs.Stores.{Sized}
+use Rattle.multimap.proofs.Additions.{member-links, member-stored, with-round, round-links, round-stored}
 use Rattle.packing.specs.Moves.{upTo, EmptyRecord}
 use Rattle.packing.proofs.Walks.{pushed-up, order-up}
 
@@ -56,28 +57,29 @@ module _ (o : ListOrderedMultimap) (keys : List ℕ) (i : ℕ) where
     pub last-member : keyAt (o .«previous_key») 256 < 257
     last-member = omega (arith, at-most-root (membersOf o) (t .linked) (keyAt (o .«previous_key») 256) (last-in (membersOf o) (t .linked)))
 
-    member-links : membersOf joined ≡ pushed (membersOf o)
-    member-links =
-        places-eq (membersOf joined) _
-        (key-set₂ (o .«next_key») (keyAt (o .«previous_key») 256) (record { 0 = i }) i (record { 0 = 256 }) 257 (s .next-key) last-member (omega (arith, room)))
-        (key-set₂ (o .«previous_key») i (record { 0 = keyAt (o .«previous_key») 256 }) 256 (record { 0 = i }) 257 (s .previous-key) (omega (arith, room)) (omega arith))
-        refl refl refl refl
+    -- the links do not depend on the member numbers
+    links : linksOf joined ≡ member-links o i 0 (i + 1) (i + 1) (o .«keys_free») (o .index)
+    links = member-stored o i 0 (i + 1) (i + 1) (o .«keys_free») (o .index) s room (omega (arith, last-member))
+
+    members-pushed : membersOf joined ≡ pushed (membersOf o)
+    members-pushed =
+        ap (λ (c : Links). c .members) links
         ∙ sym (pushed-up (membersOf o) i (t .len) (t .fresh))
 
     pub member-up : MembersUp joined (i + 1)
     member-up =
         record {
-          linked = subst Linked (sym member-links) (pushed-linked (membersOf o) (t .linked) (rw (t .len) room));
-          order = ap order member-links ∙ order-up (membersOf o) i (t .len) (t .fresh) (t .linked) room (t .order);
+          linked = subst Linked (sym members-pushed) (pushed-linked (membersOf o) (t .linked) (rw (t .len) room));
+          order = ap order members-pushed ∙ order-up (membersOf o) i (t .len) (t .fresh) (t .linked) room (t .order);
           len = refl;
           fresh = refl;
         }
 
     next-at : (q : ℕ) → valueAt (joined .«next_index») q ≡ put (valueAt (o .«next_index»)) (1024 + i) (1024 + i) q
-    next-at q = ap (λ (f : ℕ → ℕ). f q) (value-set (o .«next_index») (1024 + i) (record { 0 = 1024 + i }) (rw (s .next-index) (omega (arith, room))))
+    next-at q = ap (λ (c : Links). c .next q) links
 
     prev-at : (q : ℕ) → valueAt (joined .«previous_index») q ≡ put (valueAt (o .«previous_index»)) (1024 + i) (1024 + i) q
-    prev-at q = ap (λ (f : ℕ → ℕ). f q) (value-set (o .«previous_index») (1024 + i) (record { 0 = 1024 + i }) (rw (s .previous-index) (omega (arith, room))))
+    prev-at q = ap (λ (c : Links). c .prev q) links
 
     pub empty-new : EmptyRecord joined i
     empty-new =
@@ -151,27 +153,7 @@ pub record RoundFits (i last key tail size : ℕ) : Type 0 where
 -- the round v in the next round place, at the back of the record of the member place `key`
 module _ (o : ListOrderedMultimap) (i key v : ℕ) where
   abbrev pub stored : ListOrderedMultimap
-  stored =
-      record {
-        keys = o .keys;
-        length = set (o .length) key (at (o .length) key + 1);
-        «next_key» = o .«next_key»;
-        «previous_key» = o .«previous_key»;
-        values = set (o .values) i v;
-        «key_index» = set (o .«key_index») i (record { 0 = key });
-        «next_value» = set (set (o .«next_value») (valueAt (o .«previous_value») 1024) (record { 0 = i })) i (record { 0 = 1024 });
-        «previous_value» = set (set (o .«previous_value») i (record { 0 = valueAt (o .«previous_value») 1024 })) 1024 (record { 0 = i });
-        «next_index» = set (set (o .«next_index») (valueAt (o .«previous_index») (1024 + key)) (record { 0 = i })) i (record { 0 = 1024 + key });
-        «previous_index» = set (set (o .«previous_index») i (record { 0 = valueAt (o .«previous_index») (1024 + key) })) (1024 + key) (record { 0 = i });
-        index = o .index;
-        «keys_len» = o .«keys_len»;
-        «keys_fresh» = o .«keys_fresh»;
-        «keys_free» = o .«keys_free»;
-        «values_len» = i + 1;
-        «values_fresh» = i + 1;
-        «values_free» = o .«values_free»;
-        taken = o .taken;
-      }
+  stored = with-round o i key v (i + 1) (i + 1) (o .«values_free») (o .taken)
 
   module _ (t : RoundsUp o i) (room : i < 1024) (here : 0 < count key (order (membersOf o))) where
     pub round-fits : RoundFits i (valueAt (o .«previous_value») 1024) key (valueAt (o .«previous_index») (1024 + key)) (at (o .length) key)
@@ -186,31 +168,25 @@ module _ (o : ListOrderedMultimap) (i key v : ℕ) where
         }
 
     module _ (s : Sized o) where
-      round-links : linksOf stored ≡ added (linksOf o) key
-      round-links =
-          links-eq (linksOf stored) _
-          (places-eq (roundsOf stored) _
-          (value-set₂ (o .«next_value») (valueAt (o .«previous_value») 1024) (record { 0 = i }) i (record { 0 = 1024 }) 1025 (s .next-value) (round-fits .back) (omega (arith, room)))
-          (value-set₂ (o .«previous_value») i (record { 0 = valueAt (o .«previous_value») 1024 }) 1024 (record { 0 = i }) 1025 (s .previous-value) (omega (arith, room)) (omega arith))
-          refl refl refl refl)
-          refl
-          (key-set (o .«key_index») i (record { 0 = key }) (rw (s .key-index) room))
-          (value-set₂ (o .«next_index») (valueAt (o .«previous_index») (1024 + key)) (record { 0 = i }) i (record { 0 = 1024 + key }) 1280 (s .next-index) (round-fits .end) (omega (arith, room)))
-          (value-set₂ (o .«previous_index») i (record { 0 = valueAt (o .«previous_index») (1024 + key) }) (1024 + key) (record { 0 = i }) 1280 (s .previous-index) (omega (arith, room)) (omega (arith, round-fits .place)))
-          (at-set (o .length) key (at (o .length) key + 1) (rw (s .lengths) (round-fits .place)))
+      stores : linksOf stored ≡ round-links o i key v (i + 1) (i + 1) (o .«values_free») (o .taken)
+      stores = round-stored o i key v (i + 1) (i + 1) (o .«values_free») (o .taken) s room (round-fits .place) (omega (arith, round-fits .back)) (round-fits .end)
+
+      is-added : linksOf stored ≡ added (linksOf o) key
+      is-added =
+          stores
           ∙ sym (added-up (linksOf o) key i (t .len) (t .fresh))
 
       pub round-up : RoundsUp stored (i + 1)
       round-up =
           record {
-            chained = subst Chained (sym round-links) (added-chained (linksOf o) (t .chained) key here (rw (t .len) room));
-            order = ap (λ (c : Links). order (c .rounds)) round-links ∙ order-up (roundsOf o) i (t .len) (t .fresh) (t .chained .rounds) room (t .order);
+            chained = subst Chained (sym is-added) (added-chained (linksOf o) (t .chained) key here (rw (t .len) room));
+            order = ap (λ (c : Links). order (c .rounds)) is-added ∙ order-up (roundsOf o) i (t .len) (t .fresh) (t .chained .rounds) room (t .order);
             len = refl;
             fresh = refl;
           }
 
       key-at : (q : ℕ) → keyAt (stored .«key_index») q ≡ put (keyAt (o .«key_index»)) i key q
-      key-at q = ap (λ (f : ℕ → ℕ). f q) (key-set (o .«key_index») i (record { 0 = key }) (rw (s .key-index) room))
+      key-at q = ap (λ (c : Links). c .key q) stores
 
       pub key-new : keyAt (stored .«key_index») i ≡ key
       key-new = key-at i ∙ put-hit (keyAt (o .«key_index»)) i key i refl
