@@ -8,10 +8,9 @@ use std::{env, fs};
 fn main() {
     println!("cargo:rerun-if-env-changed=PRELGAMMO_STATICLIB");
     let library = match env::var_os("PRELGAMMO_STATICLIB") {
-        Some(path) => PathBuf::from(path),
+        Some(path) => ready(path.into()),
         None => prove(&root()),
     };
-    println!("cargo:rerun-if-changed={}", library.display());
     let out = PathBuf::from(env::var_os("OUT_DIR").expect("cargo sets OUT_DIR"));
     if let Err(error) = fs::copy(&library, out.join("libexports.a")) {
         panic!("{}: {error}", library.display());
@@ -25,13 +24,20 @@ fn root() -> PathBuf {
     Path::new(&package).join("../..")
 }
 
-// A crate whose files have not changed since it was proved is not proved again.
+fn ready(library: PathBuf) -> PathBuf {
+    println!("cargo:rerun-if-changed={}", library.display());
+    library
+}
+
+// Only crates that have changed since they were last proved are proved again, and `exports` itself.
 fn prove(root: &Path) -> PathBuf {
     println!("cargo:rerun-if-changed={}", root.join("crates").display());
     println!("cargo:rerun-if-changed={}", root.join("crates.txt").display());
     match Command::new("rt").args(["staticlib", "exports"]).current_dir(root).status() {
         Ok(status) if status.success() => root.join("target/staticlib/libexports.a"),
         Ok(status) => panic!("rt staticlib exports: {status}"),
-        Err(error) => panic!("rt, the command of the Rattle kit, does not run: {error}; PRELGAMMO_STATICLIB may name a libexports.a instead"),
+        Err(error) => {
+            panic!("rt, the Rattle kit's command: {error}; PRELGAMMO_STATICLIB may name a libexports.a instead")
+        }
     }
 }
