@@ -45,27 +45,33 @@ struct Said {
 
 const _: () = assert!(size_of::<Record>() == 24_096 && size_of::<Reply>() == 24_128);
 
-// A slice passes as a pointer and a length. Every function but the first three asks that its map is well-linked.
+// Every function but om_new, om_well_linked and om_read_image asks that its map is well-linked. A slice passes as a pointer
+// and a length. A record that is too large for registers is given back by way of a pointer that the caller passes before
+// all else, so C says `Reply om_append(ListOrderedMultimap m, ..)` where here the pointer is named: the new map is then
+// written to its box and not to the stack first.
+#[cfg(not(all(unix, target_arch = "x86_64", target_pointer_width = "64")))]
+compile_error!("libexports.a and the way of giving records back are those of x86-64 under Unix");
+
 extern "C" {
-    fn om_new() -> Record;
+    fn om_new(map: *mut Record);
     fn om_well_linked(m: Record) -> u64;
-    fn om_read_image(bytes: *const u8, len: usize) -> Reply;
+    fn om_read_image(reply: *mut Reply, bytes: *const u8, len: usize);
     fn om_write_image(m: Record, out: *mut u8, len: usize) -> Said;
 
-    fn om_append(m: Record, k: u64, v: u64) -> Reply;
-    fn om_insert(m: Record, k: u64, v: u64) -> Reply;
-    fn om_insert_all(m: Record, k: u64, v: u64, out: *mut u64, len: usize) -> Reply;
-    fn om_remove(m: Record, k: u64) -> Reply;
-    fn om_remove_all(m: Record, k: u64, out: *mut u64, len: usize) -> Reply;
-    fn om_occupied_append(m: Record, k: u64, v: u64) -> Reply;
-    fn om_occupied_insert(m: Record, k: u64, v: u64) -> Reply;
-    fn om_occupied_remove_entry(m: Record, k: u64) -> Reply;
-    fn om_vacant_insert(m: Record, k: u64, v: u64) -> Reply;
-    fn om_pop_front(m: Record) -> Reply;
-    fn om_pop_back(m: Record) -> Reply;
-    fn om_retain(m: Record, marks: *const u8, len: usize) -> Reply;
-    fn om_pack_to(m: Record, members: u64, rounds: u64) -> Reply;
-    fn om_clear(m: Record) -> Reply;
+    fn om_append(reply: *mut Reply, m: Record, k: u64, v: u64);
+    fn om_insert(reply: *mut Reply, m: Record, k: u64, v: u64);
+    fn om_insert_all(reply: *mut Reply, m: Record, k: u64, v: u64, out: *mut u64, len: usize);
+    fn om_remove(reply: *mut Reply, m: Record, k: u64);
+    fn om_remove_all(reply: *mut Reply, m: Record, k: u64, out: *mut u64, len: usize);
+    fn om_occupied_append(reply: *mut Reply, m: Record, k: u64, v: u64);
+    fn om_occupied_insert(reply: *mut Reply, m: Record, k: u64, v: u64);
+    fn om_occupied_remove_entry(reply: *mut Reply, m: Record, k: u64);
+    fn om_vacant_insert(reply: *mut Reply, m: Record, k: u64, v: u64);
+    fn om_pop_front(reply: *mut Reply, m: Record);
+    fn om_pop_back(reply: *mut Reply, m: Record);
+    fn om_retain(reply: *mut Reply, m: Record, marks: *const u8, len: usize);
+    fn om_pack_to(reply: *mut Reply, m: Record, members: u64, rounds: u64);
+    fn om_clear(reply: *mut Reply, m: Record);
 
     fn om_entry(m: Record, k: u64) -> Said;
     fn om_get(m: Record, k: u64) -> Said;
@@ -86,11 +92,13 @@ pub struct Map {
     reply: Box<Reply>,
 }
 
-// The answer of a foreign function that gives a map back, which takes the place of the one that it was given. The premise
-// holds: a Map is well-linked. Each pointer and length are those of one slice that is lent for the call.
+// The answer of a foreign function that gives a map back, which takes the place of the one that it was given: that one was
+// copied for the call. The premise holds, since a Map is well-linked. Each pointer and length are those of one slice, which
+// is lent for the call and overlaps no other.
 macro_rules! change {
     ($map:ident, $function:ident($($argument:expr),*)) => {{
-        *$map.reply = unsafe { $function($map.reply.map, $($argument),*) };
+        let reply: *mut Reply = &mut *$map.reply;
+        unsafe { $function(reply, (*reply).map, $($argument),*) };
         Answer($map.reply.answer)
     }};
 }
@@ -102,23 +110,34 @@ macro_rules! read {
     };
 }
 
+fn zeros() -> Box<Reply> {
+    // Numbers may all be 0.
+    unsafe { Box::new_zeroed().assume_init() }
+}
+
 impl Map {
     pub fn new() -> Map {
-        let map = unsafe { om_new() };
-        Map { reply: Box::new(Reply { map, answer: [0; 4] }) }
+        let mut reply = zeros();
+        unsafe { om_new(&mut reply.map) };
+        Map { reply }
     }
 
     // The map of an image, or the empty one where the answer is a refusal.
     pub fn read_image(bytes: &[u8]) -> (Map, Answer) {
-        let reply = Box::new(unsafe { om_read_image(bytes.as_ptr(), bytes.len()) });
+        let mut reply = zeros();
+        unsafe { om_read_image(&mut *reply, bytes.as_ptr(), bytes.len()) };
         let answer = Answer(reply.answer);
         (Map { reply }, answer)
     }
 
     // The map of a record, where it is well-linked.
     pub fn check(record: &Record) -> Option<Map> {
-        let yes = unsafe { om_well_linked(*record) } == 1;
-        yes.then(|| Map { reply: Box::new(Reply { map: *record, answer: [0; 4] }) })
+        if unsafe { om_well_linked(*record) } == 0 {
+            return None;
+        }
+        let mut reply = zeros();
+        reply.map = *record;
+        Some(Map { reply })
     }
 
     pub fn record(&self) -> &Record {

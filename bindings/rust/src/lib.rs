@@ -33,15 +33,15 @@
 //! # Cost
 //!
 //! The map is one record of 24,096 bytes in a box. The library's functions take it by value, so every call, a read too,
-//! copies the record to the stack once, and a call that may change the map has the new record on the stack once more.
-//! This is the calling convention's and cannot be avoided here; inside, the library makes copies of its own. A call of one
-//! value costs a few microseconds where the crate follows pointers; `docs/BENCHMARKS.md` has figures. For many values at
-//! once there is [`ListOrderedMultimap::from_pairs`].
+//! copies it to the stack; that is the calling convention's and cannot be avoided here. A changed map is written straight
+//! to the box. Inside, the library makes copies of its own. So a call of one value costs microseconds where the crate
+//! follows a few pointers, and a call over many values is about as fast as the crate's or faster: `docs/BENCHMARKS.md`.
+//! For many values at once there is [`ListOrderedMultimap::from_pairs`].
 //!
 //! # Threads
 //!
-//! A map is plain numbers: it can be sent to other threads and read from several at once. Calls need stack for the
-//! copies; threads with a stack of 1 MiB have enough.
+//! A map is plain numbers: it can be sent to other threads and read from several at once. The copies need
+//! about 300 KB of stack, of which every thread has enough that was not given less than 1 MiB on purpose.
 //!
 //! ```
 //! fn shared<T: Send + Sync>() {}

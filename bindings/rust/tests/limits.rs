@@ -31,10 +31,9 @@ fn occupied_append(map: &mut ListOrderedMultimap, key: u64) -> Result<(), Refuse
 
 #[test]
 fn a_full_map_takes_no_round() {
-    let (mut map, model) = filled(1023, 100);
+    let (mut map, _) = filled(1023, 100);
     assert_eq!(map.clone().append(5, 0), Ok(true));
     assert_eq!(map.append(1000, 0), Ok(false));
-    let (mut map, _) = (map, model);
     assert_eq!(map.append(5, 0), Err(Refused::Full));
     assert_eq!(map.append(2000, 0), Err(Refused::Full));
     assert_eq!(map.insert(2000, 0), Err(Refused::Full));
