@@ -8,5 +8,5 @@ if [ -z "${PRELGAMMO_STATICLIB:-}" ]; then
     (cd "$root" && rt staticlib exports)
     PRELGAMMO_STATICLIB=$root/target/staticlib/libexports.a
 fi
-cp "$PRELGAMMO_STATICLIB" "$root/target/bindings/libexports.a.new"
+cp -p "$PRELGAMMO_STATICLIB" "$root/target/bindings/libexports.a.new"
 mv "$root/target/bindings/libexports.a.new" "$root/target/bindings/libexports.a"

@@ -31,8 +31,9 @@ fn long_record<M: Map>(map: &mut M) {
 
 fn empty<M: Map>(_: &mut M) {}
 
-fn pairs(count: u64) -> Vec<(u64, u64)> {
-    (0..count).map(|at| (at % 256, at)).collect()
+// As many as a map holds.
+pub fn pairs() -> Vec<(u64, u64)> {
+    (0..1024).map(|at| (at % 256, at)).collect()
 }
 
 fn each<M: Map>(map: &mut M, call: fn(&mut M, u64)) {
@@ -133,7 +134,7 @@ fn at_once<M: Map>() -> Vec<Case<M>> {
         Case {
             name: "from_pairs (crate: collect), 1,024",
             before: empty,
-            timed: |_| drop(black_box(M::from_pairs(&black_box(pairs(1024))))),
+            timed: |_| drop(black_box(M::from_pairs(&black_box(pairs())))),
             calls: 1,
         },
     ]

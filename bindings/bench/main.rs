@@ -3,7 +3,7 @@
 mod cases;
 mod maps;
 
-use cases::{cases, Case};
+use cases::{cases, pairs, Case};
 use maps::{Crate, Map, Package};
 use std::hint::black_box;
 use std::time::Instant;
@@ -31,10 +31,23 @@ fn made<M: Map>(case: &Case<M>) -> M {
     map
 }
 
+fn least(mut run: impl FnMut() -> f64) -> f64 {
+    (0..RUNS).map(|_| run()).fold(f64::MAX, f64::min)
+}
+
 fn time_copy() -> f64 {
     let (from, mut to) = (vec![1u8; 24_096], vec![0u8; 24_096]);
-    let mut run = || time(1, || black_box(&mut to).copy_from_slice(black_box(&from)));
-    (0..RUNS).map(|_| run()).fold(f64::MAX, f64::min)
+    least(|| time(1, || black_box(&mut to).copy_from_slice(black_box(&from))))
+}
+
+// The crate has no image.
+fn time_image() {
+    let map = Package::from_pairs(&pairs()).unwrap();
+    let bytes = map.to_bytes();
+    let writing = least(|| time(1, || drop(black_box(map.to_bytes()))));
+    let reading = least(|| time(1, || drop(black_box(Package::from_bytes(&bytes)))));
+    println!("{:<38} {writing:>12.0}", "to_bytes, 1,024");
+    println!("{:<38} {reading:>12.0}", "from_bytes, 1,024");
 }
 
 fn main() {
@@ -49,4 +62,5 @@ fn main() {
         }
         println!("{:<38} {left:>12.0} {right:>12.1} {:>15.2}", on_package.name, left / right);
     }
+    time_image();
 }

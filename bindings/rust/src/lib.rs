@@ -40,13 +40,15 @@
 //!
 //! # Threads
 //!
-//! A map is plain numbers: it can be sent to other threads and read from several at once. The copies need
-//! about 300 KB of stack, of which every thread has enough that was not given less than 1 MiB on purpose.
+//! A map is plain numbers: it can be sent to other threads and read from several at once. The copies of a call need up to
+//! 256 KB of stack. A thread has 2 MiB unless it is made with another size; 512 KiB are enough.
 //!
 //! ```
 //! fn shared<T: Send + Sync>() {}
 //! shared::<prelgammo::ListOrderedMultimap>();
 //! ```
+
+#![deny(missing_docs)]
 
 mod answer;
 mod entry;

@@ -1,4 +1,4 @@
-//! Images: there and back, damaged ones, and files.
+// Images: there and back, damaged ones, and files.
 
 mod common;
 

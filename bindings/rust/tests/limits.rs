@@ -1,4 +1,4 @@
-//! The calls at 1,024 values and 256 keys, and every refusal that the package gives.
+// The calls at 1,024 values and 256 keys, and every refusal that the package gives.
 
 mod common;
 

@@ -1,4 +1,4 @@
-//! Random lists of calls, seeded, beside the model.
+// Random lists of calls, seeded, beside the model.
 
 mod common;
 

@@ -1,4 +1,4 @@
-//! Records of unknown origin: only well-linked ones become maps.
+// Records of unknown origin: only well-linked ones become maps.
 
 use prelgammo::{ListOrderedMultimap, Record};
 

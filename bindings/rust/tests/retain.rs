@@ -1,4 +1,4 @@
-//! retain: neighbours of one record, every arrangement of a few pairs with every marks, and a function that panics.
+// retain: neighbours of one record, every arrangement of a few pairs with every marks, and a function that panics.
 
 mod common;
 

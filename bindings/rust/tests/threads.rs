@@ -1,4 +1,4 @@
-//! Full maps in many threads, with the stack that the documentation names.
+// Full maps in many threads, with the stack that the documentation names.
 
 mod common;
 
@@ -6,7 +6,7 @@ use common::{same, Model};
 use prelgammo::{Entry, ListOrderedMultimap};
 use std::thread;
 
-const STACK: usize = 1 << 20;
+const STACK: usize = 512 * 1024;
 
 // Every call on a full map.
 fn work(start: u64) -> ListOrderedMultimap {
