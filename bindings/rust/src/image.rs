@@ -89,6 +89,7 @@ impl ListOrderedMultimap {
     /// ```
     pub fn save(&self, path: impl AsRef<Path>) -> io::Result<()> {
         let path = path.as_ref();
+        let folder = File::open(folder(path))?;
         let (beside, file) = create_beside(path)?;
         let saved = fill(file, &self.to_bytes()).and_then(|()| fs::rename(&beside, path));
         if saved.is_err() {
@@ -96,7 +97,8 @@ impl ListOrderedMultimap {
             let _ = fs::remove_file(&beside);
         }
         saved?;
-        File::open(folder(path))?.sync_all()
+        // so that the name, too, outlasts a power failure
+        folder.sync_all()
     }
 
     /// Reads a map from a file with its image. A refusal comes as an error of the kind `InvalidData`, with the

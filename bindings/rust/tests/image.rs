@@ -193,6 +193,8 @@ fn a_file_that_is_no_image_is_refused() {
     assert_eq!(refused(&[0; 9]), Refused::WrongLength);
     assert_eq!(refused(&[255; 100_000]), Refused::TooMany);
     assert_eq!(refused(&[0; 100_000]), Refused::WrongLength);
+    let largest = ListOrderedMultimap::from_pairs(&[(7, 10); 1024]).unwrap().to_bytes();
+    assert_eq!(refused(&[&largest[..], &[0]].concat()), Refused::WrongLength);
     let absent = ListOrderedMultimap::load(folder.0.join("absent")).unwrap_err();
     assert_eq!(absent.kind(), io::ErrorKind::NotFound);
 }
