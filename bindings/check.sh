@@ -1,6 +1,6 @@
 #!/bin/sh
-# The tests of the bindings: the Rust package's, the C example, and the two programs of docs/MIGRATION.md. The library is
-# proved and built once (bindings/library.sh). The last needs the crate's source (oracle/build.sh).
+# The tests of the bindings: the Rust package's, the C example, and the two programs of docs/MIGRATION.md. The library
+# is proved and built once (bindings/library.sh). The last needs the crate's source (oracle/build.sh).
 set -eu
 
 cd "$(dirname "$0")/.."

@@ -1,13 +1,13 @@
 /* The proved map from C: the functions of libexports.a (crate exports, `rt staticlib exports`), for x86-64.
  *
- * A map passes by value. Every function that takes one, om_well_linked alone excepted, asks that it is well-linked: that it
- * came from one of these functions, or that om_well_linked says 1 of it. Anything else about the arguments is tested.
+ * A map passes by value. Every function that takes one, om_well_linked alone excepted, asks that it is well-linked:
+ * that it came from one of these functions, or that om_well_linked says 1 of it.
  *
- * A slice is a pointer and a length. The pointer is never NULL, also where the length is 0, and the slices of one call do
- * not overlap. An out slice may be longer than needed; what stands past the count that was written is kept.
+ * A slice is a pointer and a length. The pointer is never NULL, also where the length is 0, and the slices of one call
+ * do not overlap. An out slice may be longer than needed; what stands past the count that was written is kept.
  *
- * The comments below name the refusals of each call; a refused call gives back the map as it came and writes to no slice.
- * The numbers and what they mean are in document 01's table. */
+ * The comments below name the refusals of each call, in the order of its checks; a refused call gives back the map as
+ * it came and writes to no slice. The numbers and what they mean are in document 01's table. */
 #ifndef PRELGAMMO_H
 #define PRELGAMMO_H
 
@@ -102,8 +102,8 @@ uint64_t om_well_linked(ListOrderedMultimap m);
 /* Adds round v of member k at the back: OM_PRESENT. Refused by 1, 2. */
 om_reply om_append(ListOrderedMultimap m, uint64_t k, uint64_t v);
 
-/* Replaces all rounds of k by v, at the back: OM_ROUND, the first of the old ones, or OM_NONE. Refused by 1, 2 where k is
- * absent. */
+/* Replaces all rounds of k by v, at the back: OM_ROUND, the first of the old ones, or OM_NONE. Refused by 1, 2 where k
+ * is absent. */
 om_reply om_insert(ListOrderedMultimap m, uint64_t k, uint64_t v);
 
 /* The same, and writes all of the old rounds to out: OM_COUNT. Refused by 1, 2 where k is absent, else by 3. */
@@ -133,8 +133,8 @@ om_reply om_pop_front(ListOrderedMultimap m);
 /* Takes the last round out: OM_POPPED, or OM_NONE. */
 om_reply om_pop_back(ListOrderedMultimap m);
 
-/* Takes the rounds with mark 0 out and keeps those with mark 1, one mark for each in the order of om_iter: OM_COUNT, how
- * many are kept. Refused by 7, 8. */
+/* Takes the rounds with mark 0 out and keeps those with mark 1, one mark for each in the order of om_iter: OM_COUNT,
+ * how many are kept. Refused by 7, 8. */
 om_reply om_retain(ListOrderedMultimap m, const uint8_t *marks, size_t marks_len);
 
 /* Puts rounds and members into the first places, in order: OM_DONE. Refused by 4, 5, 6. */

@@ -3,8 +3,8 @@ use std::fmt;
 
 /// Why a call was refused. The map is then as it was before the call.
 ///
-/// These are all refusals of document 01, with its numbers and words. The methods of this package give 1, 2, 4, 5, 6 and
-/// 11 to 14. The others have no occasion here: slices are always long enough, `retain` makes its own marks, and an
+/// These are all refusals of document 01, with its numbers and words. The methods of this package give 1, 2, 4, 5, 6
+/// and 11 to 14. The others have no occasion here: slices are always long enough, `retain` makes its own marks, and an
 /// [`OccupiedEntry`](crate::OccupiedEntry) or a [`VacantEntry`](crate::VacantEntry) is only there where it fits.
 ///
 /// ```

@@ -45,10 +45,10 @@ struct Said {
 
 const _: () = assert!(size_of::<Record>() == 24_096 && size_of::<Reply>() == 24_128);
 
-// Every function but om_new, om_well_linked and om_read_image asks that its map is well-linked. A slice passes as a pointer
-// and a length. A record that is too large for registers is given back by way of a pointer that the caller passes before
-// all else, so C says `Reply om_append(ListOrderedMultimap m, ..)` where here the pointer is named: the new map is then
-// written to its box and not to the stack first.
+// Every function but om_new, om_well_linked and om_read_image asks that its map is well-linked. A slice passes as a
+// pointer and a length. A record that is too large for registers is given back by way of a pointer that the caller
+// passes before all else. C leaves it to the compiler, `om_reply om_append(ListOrderedMultimap m, ..)`; here it is
+// named, so that the new map is written to its box and not to the stack first.
 #[cfg(not(all(unix, target_arch = "x86_64", target_pointer_width = "64")))]
 compile_error!("libexports.a and the way of giving records back are those of x86-64 under Unix");
 
@@ -92,9 +92,9 @@ pub struct Map {
     reply: Box<Reply>,
 }
 
-// The answer of a foreign function that gives a map back, which takes the place of the one that it was given: that one was
-// copied for the call. The premise holds, since a Map is well-linked. Each pointer and length are those of one slice, which
-// is lent for the call and overlaps no other.
+// The answer of a foreign function that gives a map back, which takes the place of the one that it was given: that
+// one was copied for the call. The premise holds, since a Map is well-linked. Each pointer and length are those of
+// one slice, which is lent for the call and overlaps no other.
 macro_rules! change {
     ($map:ident, $function:ident($($argument:expr),*)) => {{
         let reply: *mut Reply = &mut *$map.reply;

@@ -1,5 +1,5 @@
-// The image of a map: sizes first, n values and m keys in four bytes each, then n keys and n values in eight bytes each;
-// every number lowest byte first.
+// The image of a map: sizes first, n values and m keys in four bytes each, then n keys and n values in eight bytes
+// each; every number lowest byte first.
 
 use crate::ffi::Map;
 use crate::{ListOrderedMultimap, Refused, MEMBERS, ROUNDS};
@@ -12,8 +12,8 @@ use std::sync::atomic::{AtomicU64, Ordering};
 const MOST_BYTES: usize = 8 + 16 * ROUNDS;
 
 impl ListOrderedMultimap {
-    /// The image of the map: its pairs in order. What else there is of a map is not in it, namely the order of the keys,
-    /// where it is not that of their first values, and [`taken`](ListOrderedMultimap::taken).
+    /// The image of the map: its pairs in order. What else there is of a map is not in it, namely the order of the
+    /// keys, where it is not that of their first values, and [`taken`](ListOrderedMultimap::taken).
     ///
     /// ```
     /// use prelgammo::ListOrderedMultimap;
@@ -52,8 +52,8 @@ impl ListOrderedMultimap {
         Ok(ListOrderedMultimap { map })
     }
 
-    /// The map of these pairs, as if each were appended to an empty one, by way of an image: the fastest way to post many
-    /// values. Where one of the appends would be refused, by 1 or 2, there is no map.
+    /// The map of these pairs, as if each were appended to an empty one, by way of an image: the fastest way to post
+    /// many values. Where one of the appends would be refused, by 1 or 2, there is no map.
     ///
     /// ```
     /// use prelgammo::{ListOrderedMultimap, Refused};

@@ -1,8 +1,10 @@
-//! Rounds of members in posting order: a map from a number to a list of numbers that also keeps the order over all keys.
+//! Rounds of members in posting order: a map from a number to a list of numbers that also keeps the order over all
+//! keys.
 //!
 //! [`ListOrderedMultimap`] has the names and shapes of `ListOrderedMultimap<u64, u64>` of the crate ordered-multimap
-//! 0.7.3. Its calls are done by a library in Rattle that is proved to do what the scope document ("document 01") says, on
-//! every input; what this package adds is the way to it. `docs/MIGRATION.md` has a program before and after the move.
+//! 0.7.3. Its calls are done by a library in Rattle that is proved to do what the scope document ("document 01")
+//! says, on every input; what this package adds is the way to it. `docs/MIGRATION.md` has a program before and after
+//! the move.
 //!
 //! ```
 //! use prelgammo::ListOrderedMultimap;
@@ -20,8 +22,8 @@
 //!
 //! # Limits and refusals
 //!
-//! A map holds at most [`MEMBERS`] keys and [`ROUNDS`] values. A call that cannot be done gives [`Refused`] with a number
-//! of document 01, and leaves the map as it was. A method that document 01 never refuses gives its answer plainly.
+//! A map holds at most [`MEMBERS`] keys and [`ROUNDS`] values. A call that cannot be done gives [`Refused`] with a
+//! number of document 01, and leaves the map as it was. A method that is never refused here gives its answer plainly.
 //!
 //! # Iterators
 //!
@@ -32,16 +34,16 @@
 //!
 //! # Cost
 //!
-//! The map is one record of 24,096 bytes in a box. The library's functions take it by value, so every call, a read too,
-//! copies it to the stack; that is the calling convention's and cannot be avoided here. A changed map is written straight
-//! to the box. Inside, the library makes copies of its own. So a call of one value costs microseconds where the crate
-//! follows a few pointers, and a call over many values is about as fast as the crate's or faster: `docs/BENCHMARKS.md`.
-//! For many values at once there is [`ListOrderedMultimap::from_pairs`].
+//! The map is one record of 24,096 bytes in a box. The library's functions take it by value, so every call, a read
+//! too, copies it to the stack; that is the calling convention's and cannot be avoided here. A changed map is written
+//! straight to the box. Inside, the library makes copies of its own. So a call of one value costs microseconds where
+//! the crate follows a few pointers; calls over many values take between a tenth and three times the crate's time
+//! (`docs/BENCHMARKS.md`). For many values at once there is [`ListOrderedMultimap::from_pairs`].
 //!
 //! # Threads
 //!
-//! A map is plain numbers: it can be sent to other threads and read from several at once. The copies of a call need up to
-//! 256 KB of stack. A thread has 2 MiB unless it is made with another size; 512 KiB are enough.
+//! A map is plain numbers: it can be sent to other threads and read from several at once. The copies of a call need up
+//! to 256 KB of stack. A thread has 2 MiB unless it is made with another size; 512 KiB are enough.
 //!
 //! ```
 //! fn shared<T: Send + Sync>() {}
