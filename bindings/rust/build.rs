@@ -1,0 +1,43 @@
+//! Has the library proved and built by `rt staticlib exports` at the repository's root, or takes the one that
+//! PRELGAMMO_STATICLIB names, and links it.
+
+use std::path::{Path, PathBuf};
+use std::process::Command;
+use std::{env, fs};
+
+fn main() {
+    println!("cargo:rerun-if-env-changed=PRELGAMMO_STATICLIB");
+    let library = match env::var_os("PRELGAMMO_STATICLIB") {
+        Some(path) => ready(path.into()),
+        None => prove(&root()),
+    };
+    let out = PathBuf::from(env::var_os("OUT_DIR").expect("cargo sets OUT_DIR"));
+    if let Err(error) = fs::copy(&library, out.join("libexports.a")) {
+        panic!("{}: {error}", library.display());
+    }
+    println!("cargo:rustc-link-search=native={}", out.display());
+    println!("cargo:rustc-link-lib=static=exports");
+}
+
+fn root() -> PathBuf {
+    let package = env::var_os("CARGO_MANIFEST_DIR").expect("cargo sets CARGO_MANIFEST_DIR");
+    Path::new(&package).join("../..")
+}
+
+fn ready(library: PathBuf) -> PathBuf {
+    println!("cargo:rerun-if-changed={}", library.display());
+    library
+}
+
+// Only crates that have changed since they were last proved are proved again, and `exports` itself.
+fn prove(root: &Path) -> PathBuf {
+    println!("cargo:rerun-if-changed={}", root.join("crates").display());
+    println!("cargo:rerun-if-changed={}", root.join("crates.txt").display());
+    match Command::new("rt").args(["staticlib", "exports"]).current_dir(root).status() {
+        Ok(status) if status.success() => root.join("target/staticlib/libexports.a"),
+        Ok(status) => panic!("rt staticlib exports: {status}"),
+        Err(error) => {
+            panic!("rt, the Rattle kit's command: {error}; PRELGAMMO_STATICLIB may name a libexports.a instead")
+        }
+    }
+}

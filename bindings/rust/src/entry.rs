@@ -1,0 +1,186 @@
+use crate::{ListOrderedMultimap, Refused};
+use std::fmt;
+
+/// A key's place in the map, from [`ListOrderedMultimap::entry`].
+///
+/// ```
+/// use prelgammo::{Entry, ListOrderedMultimap};
+///
+/// let mut map = ListOrderedMultimap::new();
+/// for value in [10, 11, 12] {
+///     match map.entry(7) {
+///         Entry::Occupied(mut entry) => entry.append(value)?,
+///         Entry::Vacant(entry) => entry.insert(value)?,
+///     }
+/// }
+/// assert!(map.get_all(&7).eq([10, 11, 12]));
+/// # Ok::<(), prelgammo::Refused>(())
+/// ```
+#[derive(Debug)]
+pub enum Entry<'map> {
+    /// The key has values.
+    Occupied(OccupiedEntry<'map>),
+    /// The key is not in the map.
+    Vacant(VacantEntry<'map>),
+}
+
+/// A key that has values.
+pub struct OccupiedEntry<'map> {
+    pub(crate) map: &'map mut ListOrderedMultimap,
+    pub(crate) key: u64,
+}
+
+impl OccupiedEntry<'_> {
+    /// Adds a value at the back. Refused by 1.
+    ///
+    /// ```
+    /// use prelgammo::{Entry, ListOrderedMultimap};
+    ///
+    /// let mut map = ListOrderedMultimap::new();
+    /// map.append(7, 10)?;
+    /// let Entry::Occupied(mut entry) = map.entry(7) else { unreachable!() };
+    /// entry.append(11)?;
+    /// assert_eq!(entry.len(), 2);
+    /// # Ok::<(), prelgammo::Refused>(())
+    /// ```
+    pub fn append(&mut self, value: u64) -> Result<(), Refused> {
+        let answer = self.map.map.occupied_append(self.key, value).accepted()?;
+        answer.done();
+        Ok(())
+    }
+
+    /// Replaces all values of the key by one, which goes to the back of the map, and gives the first of the old ones.
+    ///
+    /// ```
+    /// use prelgammo::{Entry, ListOrderedMultimap};
+    ///
+    /// let mut map = ListOrderedMultimap::new();
+    /// map.append(7, 10)?;
+    /// map.append(7, 11)?;
+    /// let Entry::Occupied(mut entry) = map.entry(7) else { unreachable!() };
+    /// assert_eq!(entry.insert(12), 10);
+    /// assert!(map.get_all(&7).eq([12]));
+    /// # Ok::<(), prelgammo::Refused>(())
+    /// ```
+    pub fn insert(&mut self, value: u64) -> u64 {
+        let first = self.map.map.occupied_insert(self.key, value).round();
+        first.expect("an occupied entry has a value")
+    }
+
+    /// The key.
+    ///
+    /// ```
+    /// use prelgammo::{Entry, ListOrderedMultimap};
+    ///
+    /// let mut map = ListOrderedMultimap::new();
+    /// map.append(7, 10)?;
+    /// let Entry::Occupied(entry) = map.entry(7) else { unreachable!() };
+    /// assert_eq!(entry.key(), &7);
+    /// # Ok::<(), prelgammo::Refused>(())
+    /// ```
+    #[must_use]
+    pub fn key(&self) -> &u64 {
+        &self.key
+    }
+
+    /// The number of the key's values, which is never 0.
+    ///
+    /// ```
+    /// use prelgammo::{Entry, ListOrderedMultimap};
+    ///
+    /// let mut map = ListOrderedMultimap::new();
+    /// map.append(7, 10)?;
+    /// let Entry::Occupied(entry) = map.entry(7) else { unreachable!() };
+    /// assert_eq!(entry.len(), 1);
+    /// # Ok::<(), prelgammo::Refused>(())
+    /// ```
+    #[allow(clippy::len_without_is_empty)]
+    #[must_use]
+    pub fn len(&self) -> usize {
+        self.map.entry_len(&self.key)
+    }
+
+    /// Takes the key and all its values out, and gives the key and the first value.
+    ///
+    /// ```
+    /// use prelgammo::{Entry, ListOrderedMultimap};
+    ///
+    /// let mut map = ListOrderedMultimap::new();
+    /// map.append(7, 10)?;
+    /// map.append(7, 11)?;
+    /// let Entry::Occupied(entry) = map.entry(7) else { unreachable!() };
+    /// assert_eq!(entry.remove_entry(), (7, 10));
+    /// assert_eq!(map.values_len(), 0);
+    /// # Ok::<(), prelgammo::Refused>(())
+    /// ```
+    pub fn remove_entry(self) -> (u64, u64) {
+        let first = self.map.map.occupied_remove_entry(self.key).round();
+        (self.key, first.expect("an occupied entry has a value"))
+    }
+}
+
+impl fmt::Debug for OccupiedEntry<'_> {
+    fn fmt(&self, f: &mut fmt::Formatter<'_>) -> fmt::Result {
+        let values: Vec<u64> = self.map.get_all(&self.key).collect();
+        f.debug_struct("OccupiedEntry").field("key", &self.key).field("values", &values).finish()
+    }
+}
+
+/// A key that is not in the map.
+pub struct VacantEntry<'map> {
+    pub(crate) map: &'map mut ListOrderedMultimap,
+    pub(crate) key: u64,
+}
+
+impl VacantEntry<'_> {
+    /// Adds the key with one value at the back. Refused by 1 and 2.
+    ///
+    /// ```
+    /// use prelgammo::{Entry, ListOrderedMultimap};
+    ///
+    /// let mut map = ListOrderedMultimap::new();
+    /// let Entry::Vacant(entry) = map.entry(7) else { unreachable!() };
+    /// entry.insert(10)?;
+    /// assert_eq!(map.get(&7), Some(10));
+    /// # Ok::<(), prelgammo::Refused>(())
+    /// ```
+    pub fn insert(self, value: u64) -> Result<(), Refused> {
+        let answer = self.map.map.vacant_insert(self.key, value).accepted()?;
+        answer.done();
+        Ok(())
+    }
+
+    /// The key, with which the entry is left.
+    ///
+    /// ```
+    /// use prelgammo::{Entry, ListOrderedMultimap};
+    ///
+    /// let mut map = ListOrderedMultimap::new();
+    /// let Entry::Vacant(entry) = map.entry(7) else { unreachable!() };
+    /// assert_eq!(entry.into_key(), 7);
+    /// ```
+    #[must_use]
+    pub fn into_key(self) -> u64 {
+        self.key
+    }
+
+    /// The key.
+    ///
+    /// ```
+    /// use prelgammo::{Entry, ListOrderedMultimap};
+    ///
+    /// let mut map = ListOrderedMultimap::new();
+    /// let Entry::Vacant(entry) = map.entry(7) else { unreachable!() };
+    /// assert_eq!(entry.key(), &7);
+    /// ```
+    #[must_use]
+    pub fn key(&self) -> &u64 {
+        &self.key
+    }
+}
+
+impl fmt::Debug for VacantEntry<'_> {
+    fn fmt(&self, f: &mut fmt::Formatter<'_>) -> fmt::Result {
+        f.debug_tuple("VacantEntry").field(&self.key).finish()
+    }
+}

@@ -1,0 +1,168 @@
+// The image of a map: sizes first, n values and m keys in four bytes each, then n keys and n values in eight bytes
+// each; every number lowest byte first.
+
+use crate::ffi::Map;
+use crate::{ListOrderedMultimap, Refused, MEMBERS, ROUNDS};
+use std::fs::{self, File, OpenOptions};
+use std::io::{self, Read, Write};
+use std::path::{Path, PathBuf};
+use std::sync::atomic::{AtomicU64, Ordering};
+
+// The bytes of the largest image.
+const MOST_BYTES: usize = 8 + 16 * ROUNDS;
+
+impl ListOrderedMultimap {
+    /// The image of the map: its pairs in order. What else there is of a map is not in it, namely the order of the
+    /// keys, where it is not that of their first values, and [`taken`](ListOrderedMultimap::taken).
+    ///
+    /// ```
+    /// use prelgammo::ListOrderedMultimap;
+    ///
+    /// let mut map = ListOrderedMultimap::new();
+    /// map.append(7, 10)?;
+    /// let bytes = map.to_bytes();
+    /// assert_eq!(bytes, [1, 0, 0, 0, 1, 0, 0, 0, 7, 0, 0, 0, 0, 0, 0, 0, 10, 0, 0, 0, 0, 0, 0, 0]);
+    /// # Ok::<(), prelgammo::Refused>(())
+    /// ```
+    #[must_use]
+    pub fn to_bytes(&self) -> Vec<u8> {
+        let mut out = vec![0; MOST_BYTES];
+        let count = self.map.write_image(&mut out).count();
+        out.truncate(count as usize);
+        out
+    }
+
+    /// The map of an image: the same pairs, the keys in the order of their first values, and as many values taken in as
+    /// it has. Refused by 11 to 14.
+    ///
+    /// ```
+    /// use prelgammo::{ListOrderedMultimap, Refused};
+    ///
+    /// let mut map = ListOrderedMultimap::new();
+    /// map.append(7, 10)?;
+    /// let mut bytes = map.to_bytes();
+    /// assert_eq!(ListOrderedMultimap::from_bytes(&bytes), Ok(map));
+    /// bytes.pop();
+    /// assert_eq!(ListOrderedMultimap::from_bytes(&bytes), Err(Refused::WrongLength));
+    /// # Ok::<(), prelgammo::Refused>(())
+    /// ```
+    pub fn from_bytes(bytes: &[u8]) -> Result<ListOrderedMultimap, Refused> {
+        let (map, answer) = Map::read_image(bytes);
+        answer.accepted()?.done();
+        Ok(ListOrderedMultimap { map })
+    }
+
+    /// The map of these pairs, as if each were appended to an empty one, by way of an image: the fastest way to post
+    /// many values. Where one of the appends would be refused, by 1 or 2, there is no map.
+    ///
+    /// ```
+    /// use prelgammo::{ListOrderedMultimap, Refused};
+    ///
+    /// let map = ListOrderedMultimap::from_pairs(&[(7, 10), (9, 20), (7, 11)])?;
+    /// assert!(map.get_all(&7).eq([10, 11]));
+    /// assert_eq!(ListOrderedMultimap::from_pairs(&[(7, 10); 1025]), Err(Refused::Full));
+    /// # Ok::<(), prelgammo::Refused>(())
+    /// ```
+    pub fn from_pairs(pairs: &[(u64, u64)]) -> Result<ListOrderedMultimap, Refused> {
+        let within = &pairs[..pairs.len().min(ROUNDS)];
+        let members = distinct(within);
+        if members > MEMBERS {
+            return Err(Refused::Crowded);
+        }
+        if pairs.len() > ROUNDS {
+            return Err(Refused::Full);
+        }
+        ListOrderedMultimap::from_bytes(&layout(pairs, members))
+    }
+
+    /// Writes the image to a file, whole or not at all: to a new file beside it first, which then takes its name.
+    ///
+    /// ```
+    /// use prelgammo::ListOrderedMultimap;
+    ///
+    /// let path = std::env::temp_dir().join(format!("prelgammo-save-{}", std::process::id()));
+    /// let map = ListOrderedMultimap::from_pairs(&[(7, 10), (9, 20)]).unwrap();
+    /// map.save(&path)?;
+    /// assert_eq!(ListOrderedMultimap::load(&path)?, map);
+    /// # std::fs::remove_file(&path)?;
+    /// # Ok::<(), std::io::Error>(())
+    /// ```
+    pub fn save(&self, path: impl AsRef<Path>) -> io::Result<()> {
+        let path = path.as_ref();
+        let folder = File::open(folder(path))?;
+        let (beside, file) = create_beside(path)?;
+        let saved = fill(file, &self.to_bytes()).and_then(|()| fs::rename(&beside, path));
+        if saved.is_err() {
+            // what went wrong first is told
+            let _ = fs::remove_file(&beside);
+        }
+        saved?;
+        // so that the name, too, outlasts a power failure
+        folder.sync_all()
+    }
+
+    /// Reads a map from a file with its image. A refusal comes as an error of the kind `InvalidData`, with the
+    /// [`Refused`] inside.
+    ///
+    /// ```
+    /// use prelgammo::{ListOrderedMultimap, Refused};
+    ///
+    /// let path = std::env::temp_dir().join(format!("prelgammo-load-{}", std::process::id()));
+    /// std::fs::write(&path, "not one")?;
+    /// let error = ListOrderedMultimap::load(&path).unwrap_err();
+    /// assert_eq!(error.downcast::<Refused>().unwrap(), Refused::TooShort);
+    /// # std::fs::remove_file(&path)?;
+    /// # Ok::<(), std::io::Error>(())
+    /// ```
+    pub fn load(path: impl AsRef<Path>) -> io::Result<ListOrderedMultimap> {
+        // One byte more than an image can have is refused as any longer file is.
+        let mut bytes = Vec::new();
+        File::open(path)?.take(MOST_BYTES as u64 + 1).read_to_end(&mut bytes)?;
+        ListOrderedMultimap::from_bytes(&bytes).map_err(|refused| io::Error::new(io::ErrorKind::InvalidData, refused))
+    }
+}
+
+fn distinct(pairs: &[(u64, u64)]) -> usize {
+    let mut keys: Vec<u64> = pairs.iter().map(|pair| pair.0).collect();
+    keys.sort_unstable();
+    keys.dedup();
+    keys.len()
+}
+
+fn layout(pairs: &[(u64, u64)], members: usize) -> Vec<u8> {
+    let mut bytes = Vec::with_capacity(8 + 16 * pairs.len());
+    bytes.extend((pairs.len() as u32).to_le_bytes());
+    bytes.extend((members as u32).to_le_bytes());
+    bytes.extend(pairs.iter().flat_map(|pair| pair.0.to_le_bytes()));
+    bytes.extend(pairs.iter().flat_map(|pair| pair.1.to_le_bytes()));
+    bytes
+}
+
+fn folder(path: &Path) -> &Path {
+    match path.parent() {
+        Some(folder) if folder != Path::new("") => folder,
+        _ => Path::new("."),
+    }
+}
+
+// A new file in the folder of the path, under a name that nothing else has.
+fn create_beside(path: &Path) -> io::Result<(PathBuf, File)> {
+    static COUNT: AtomicU64 = AtomicU64::new(0);
+    let Some(name) = path.file_name() else {
+        return Err(io::Error::new(io::ErrorKind::InvalidInput, "the path names no file"));
+    };
+    loop {
+        let mut other = name.to_os_string();
+        other.push(format!(".{}.{}.new", std::process::id(), COUNT.fetch_add(1, Ordering::Relaxed)));
+        let beside = path.with_file_name(other);
+        match OpenOptions::new().write(true).create_new(true).open(&beside) {
+            Err(error) if error.kind() == io::ErrorKind::AlreadyExists => continue,
+            opened => return opened.map(|file| (beside, file)),
+        }
+    }
+}
+
+fn fill(mut file: File, bytes: &[u8]) -> io::Result<()> {
+    file.write_all(bytes)?;
+    file.sync_all()
+}

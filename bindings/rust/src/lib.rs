@@ -1,0 +1,73 @@
+//! Rounds of members in posting order: a map from a number to a list of numbers that also keeps the order over all
+//! keys.
+//!
+//! [`ListOrderedMultimap`] has the names and shapes of `ListOrderedMultimap<u64, u64>` of the crate ordered-multimap
+//! 0.7.3. Its calls are done by a library in Rattle that is proved to do what the scope document ("document 01")
+//! says, on every input; what this package adds is the way to it. `docs/MIGRATION.md` has a program before and after
+//! the move.
+//!
+//! ```
+//! use prelgammo::ListOrderedMultimap;
+//!
+//! let mut map = ListOrderedMultimap::new();
+//! map.append(7, 10)?;
+//! map.append(9, 20)?;
+//! map.append(7, 11)?;
+//! assert!(map.get_all(&7).eq([10, 11]));
+//! assert!(map.insert_all(7, 12)?.eq([10, 11]));
+//! assert!(map.iter().eq([(9, 20), (7, 12)]));
+//! assert!(map.keys().eq([7, 9]));
+//! # Ok::<(), prelgammo::Refused>(())
+//! ```
+//!
+//! # Limits and refusals
+//!
+//! A map holds at most [`MEMBERS`] keys and [`ROUNDS`] values. A call that cannot be done gives [`Refused`] with a
+//! number of document 01, and leaves the map as it was. A method that is never refused here gives its answer plainly.
+//!
+//! # Iterators
+//!
+//! The crate's iterators borrow the map. Here the library writes the values to a vector in one call, and the iterators
+//! ([`EntryValues`], [`EntryValuesDrain`], [`Keys`], [`Iter`]) own it. They give numbers where the crate's give
+//! references, are double-ended and know their length, as the crate's do. What [`ListOrderedMultimap::insert_all`] and
+//! [`ListOrderedMultimap::remove_all`] took out is out when they return, whether their iterator is used or not.
+//!
+//! # Cost
+//!
+//! The map is one record of 24,096 bytes in a box. The library's functions take it by value, so every call, a read
+//! too, copies it to the stack; that is the calling convention's and cannot be avoided here. A changed map is written
+//! straight to the box. Inside, the library makes copies of its own. So a call of one value costs microseconds where
+//! the crate follows a few pointers; calls over many values take between a tenth and three times the crate's time
+//! (`docs/BENCHMARKS.md`). For many values at once there is [`ListOrderedMultimap::from_pairs`].
+//!
+//! # Threads
+//!
+//! A map is plain numbers: it can be sent to other threads and read from several at once. The copies of a call need up
+//! to 256 KB of stack. A thread has 2 MiB unless it is made with another size; 512 KiB are enough.
+//!
+//! ```
+//! fn shared<T: Send + Sync>() {}
+//! shared::<prelgammo::ListOrderedMultimap>();
+//! ```
+
+#![deny(missing_docs)]
+
+mod answer;
+mod entry;
+mod error;
+mod ffi;
+mod image;
+mod key;
+mod map;
+
+pub use entry::{Entry, OccupiedEntry, VacantEntry};
+pub use error::Refused;
+pub use ffi::Record;
+pub use key::KeyWrapper;
+pub use map::{EntryValues, EntryValuesDrain, Iter, Keys, ListOrderedMultimap};
+
+/// The most keys that a map holds.
+pub const MEMBERS: usize = 256;
+
+/// The most values that a map holds.
+pub const ROUNDS: usize = 1024;

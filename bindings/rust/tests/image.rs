@@ -1,0 +1,200 @@
+// Images: there and back, damaged ones, and files.
+
+mod common;
+
+use common::{same, Model, Random};
+use prelgammo::{ListOrderedMultimap, Refused};
+use std::path::PathBuf;
+use std::{fs, io};
+
+// The image as document 01 lays it out.
+fn layout(pairs: &[(u64, u64)], members: u32) -> Vec<u8> {
+    let sizes = [(pairs.len() as u32).to_le_bytes(), members.to_le_bytes()].concat();
+    let keys: Vec<u8> = pairs.iter().flat_map(|pair| pair.0.to_le_bytes()).collect();
+    let values: Vec<u8> = pairs.iter().flat_map(|pair| pair.1.to_le_bytes()).collect();
+    [sizes, keys, values].concat()
+}
+
+// The model of an image's map.
+fn appended(pairs: &[(u64, u64)]) -> Model {
+    let mut model = Model::default();
+    for &(key, value) in pairs {
+        model.append(key, value).unwrap();
+    }
+    model
+}
+
+fn some_pairs(random: &mut Random, count: usize, keys: usize) -> Vec<(u64, u64)> {
+    let pool: Vec<u64> = (0..keys).map(|_| random.next()).collect();
+    (0..count).map(|_| (pool[random.below(keys)], random.next())).collect()
+}
+
+#[test]
+fn there_and_back() {
+    let mut random = Random(7);
+    for (count, keys) in [(0, 1), (1, 1), (5, 2), (300, 17), (1024, 1), (1024, 256), (1023, 200)] {
+        let pairs = some_pairs(&mut random, count, keys);
+        let model = appended(&pairs);
+        let map = ListOrderedMultimap::from_pairs(&pairs).unwrap();
+        same(&map, &model);
+        let bytes = map.to_bytes();
+        assert_eq!(bytes, layout(&pairs, model.members.len() as u32));
+        same(&ListOrderedMultimap::from_bytes(&bytes).unwrap(), &model);
+    }
+}
+
+#[test]
+fn an_image_has_the_pairs_and_not_the_joining_order() {
+    let mut map = ListOrderedMultimap::from_pairs(&[(7, 10), (9, 20), (7, 11)]).unwrap();
+    map.insert(7, 12).unwrap();
+    assert!(map.keys().eq([7, 9]));
+    let back = ListOrderedMultimap::from_bytes(&map.to_bytes()).unwrap();
+    assert_eq!(back, map);
+    assert!(back.keys().eq([9, 7]));
+    assert_eq!((map.taken(), back.taken()), (4, 2));
+}
+
+#[test]
+fn from_pairs_is_refused_as_the_appends_are() {
+    let one_each = |count: u64| -> Vec<(u64, u64)> { (0..count).map(|at| (at, at)).collect() };
+    let in_turn = |count: u64| -> Vec<(u64, u64)> { (0..count).map(|at| (at % 256, at)).collect() };
+    let refusal = |pairs: &[(u64, u64)]| {
+        let mut map = ListOrderedMultimap::new();
+        pairs.iter().find_map(|&(key, value)| map.append(key, value).err())
+    };
+    let late = [in_turn(1024), one_each(300)].concat();
+    for pairs in [one_each(256), one_each(257), one_each(2000), in_turn(1024), in_turn(1025), late] {
+        assert_eq!(ListOrderedMultimap::from_pairs(&pairs).err(), refusal(&pairs));
+    }
+}
+
+#[test]
+fn damaged_images_are_refused() {
+    let pairs = [(7, 10), (9, 20), (7, 11)];
+    let good = layout(&pairs, 2);
+    let refused = |bytes: &[u8]| ListOrderedMultimap::from_bytes(bytes).unwrap_err();
+    for length in 0..8 {
+        assert_eq!(refused(&good[..length]), Refused::TooShort);
+    }
+    for length in 8..good.len() {
+        assert_eq!(refused(&good[..length]), Refused::WrongLength);
+    }
+    assert_eq!(refused(&[&good[..], &[0]].concat()), Refused::WrongLength);
+    for members in [0, 1, 3, 256] {
+        assert_eq!(refused(&layout(&pairs, members)), Refused::WrongMembers);
+    }
+    for members in [257, u32::MAX] {
+        assert_eq!(refused(&layout(&pairs, members)), Refused::TooMany);
+    }
+    let many: Vec<(u64, u64)> = (0..1025).map(|at| (at % 4, at)).collect();
+    assert_eq!(refused(&layout(&many, 4)), Refused::TooMany);
+    let crowd: Vec<(u64, u64)> = (0..257).map(|at| (at, at)).collect();
+    assert_eq!(refused(&layout(&crowd, 256)), Refused::WrongMembers);
+}
+
+// One byte of an image set to any other: refused, or the map of the pairs that it then has.
+#[test]
+fn any_byte_may_be_damaged() {
+    let mut random = Random(11);
+    let pairs: Vec<(u64, u64)> = (0..6).map(|at| (at % 3, at)).collect();
+    let good = layout(&pairs, 3);
+    for at in 0..good.len() {
+        for _ in 0..8 {
+            let mut bytes = good.clone();
+            bytes[at] = random.next() as u8;
+            if let Ok(map) = ListOrderedMultimap::from_bytes(&bytes) {
+                same(&map, &appended(&map.iter().collect::<Vec<_>>()));
+                assert_eq!(map.to_bytes(), bytes);
+            }
+        }
+    }
+}
+
+// A folder of its own for each test, removed when the test ends.
+struct Folder(PathBuf);
+
+impl Folder {
+    fn new(name: &str) -> Folder {
+        let path = std::env::temp_dir().join(format!("prelgammo-{name}-{}", std::process::id()));
+        fs::create_dir_all(&path).unwrap();
+        Folder(path)
+    }
+
+    fn names(&self) -> Vec<String> {
+        let names = fs::read_dir(&self.0).unwrap().map(|file| file.unwrap().file_name().into_string().unwrap());
+        names.collect()
+    }
+}
+
+impl Drop for Folder {
+    fn drop(&mut self) {
+        let _ = fs::remove_dir_all(&self.0);
+    }
+}
+
+#[test]
+fn a_file_is_there_and_back() {
+    let folder = Folder::new("file");
+    let path = folder.0.join("rounds");
+    let mut map = ListOrderedMultimap::new();
+    for value in 0..1024 {
+        map.append(value % 200, value).unwrap();
+        if value % 100 == 0 || value == 1023 {
+            map.save(&path).unwrap();
+            assert_eq!(ListOrderedMultimap::load(&path).unwrap(), map);
+        }
+    }
+    assert_eq!(folder.names(), ["rounds"]);
+}
+
+#[test]
+fn a_save_that_fails_leaves_nothing() {
+    let folder = Folder::new("fails");
+    let map = ListOrderedMultimap::from_pairs(&[(7, 10)]).unwrap();
+    // a folder has the name, so that the file cannot take it
+    fs::create_dir(folder.0.join("taken")).unwrap();
+    assert!(map.save(folder.0.join("taken")).is_err());
+    assert!(map.save(folder.0.join("absent/rounds")).is_err());
+    assert!(map.save(folder.0.join("..")).is_err());
+    assert_eq!(folder.names(), ["taken"]);
+}
+
+#[test]
+fn many_threads_save_to_one_file() {
+    let folder = Folder::new("threads");
+    let path = folder.0.join("rounds");
+    let maps: Vec<_> =
+        (1..=8).map(|n| ListOrderedMultimap::from_pairs(&vec![(n, n); 100 * n as usize]).unwrap()).collect();
+    std::thread::scope(|scope| {
+        for map in &maps {
+            scope.spawn(|| (0..20).for_each(|_| map.save(&path).unwrap()));
+        }
+        for _ in 0..50 {
+            match ListOrderedMultimap::load(&path) {
+                Ok(map) => assert!(maps.contains(&map)),
+                Err(error) => assert_eq!(error.kind(), io::ErrorKind::NotFound),
+            }
+        }
+    });
+    assert_eq!(folder.names(), ["rounds"]);
+}
+
+#[test]
+fn a_file_that_is_no_image_is_refused() {
+    let folder = Folder::new("none");
+    let path = folder.0.join("rounds");
+    let refused = |bytes: &[u8]| {
+        fs::write(&path, bytes).unwrap();
+        let error = ListOrderedMultimap::load(&path).unwrap_err();
+        assert_eq!(error.kind(), io::ErrorKind::InvalidData);
+        error.downcast::<Refused>().unwrap()
+    };
+    assert_eq!(refused(b""), Refused::TooShort);
+    assert_eq!(refused(&[0; 9]), Refused::WrongLength);
+    assert_eq!(refused(&[255; 100_000]), Refused::TooMany);
+    assert_eq!(refused(&[0; 100_000]), Refused::WrongLength);
+    let largest = ListOrderedMultimap::from_pairs(&[(7, 10); 1024]).unwrap().to_bytes();
+    assert_eq!(refused(&[&largest[..], &[0]].concat()), Refused::WrongLength);
+    let absent = ListOrderedMultimap::load(folder.0.join("absent")).unwrap_err();
+    assert_eq!(absent.kind(), io::ErrorKind::NotFound);
+}

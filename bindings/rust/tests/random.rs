@@ -1,0 +1,91 @@
+// Random lists of calls, seeded, beside the model.
+
+mod common;
+
+use common::{same, same_lists, same_record, Model, Random};
+use prelgammo::{Entry, ListOrderedMultimap};
+
+// Keys that come up often, so that records grow, and how often a call adds.
+struct Mix {
+    keys: Vec<u64>,
+    adding: usize,
+    calls: usize,
+}
+
+fn mixes(random: &mut Random) -> Vec<Mix> {
+    let spread = (0..400).map(|_| random.next()).chain([0, u64::MAX]).collect();
+    vec![
+        Mix { keys: (0..3).collect(), adding: 5, calls: 2000 },
+        Mix { keys: (0..40).collect(), adding: 12, calls: 2000 },
+        Mix { keys: vec![0, u64::MAX, 512, 1 << 63], adding: 8, calls: 1000 },
+        Mix { keys: spread, adding: 60, calls: 3000 },
+        Mix { keys: (0..200).collect(), adding: 1500, calls: 4000 },
+    ]
+}
+
+// Makes one call of each, and compares what they answer.
+fn call(map: &mut ListOrderedMultimap, model: &mut Model, key: u64, value: u64, which: usize, random: &mut Random) {
+    match which {
+        0 => assert_eq!(map.insert(key, value), model.insert_all(key, value).map(|old| old.first().copied())),
+        1 => assert_eq!(map.insert_all(key, value).map(Iterator::collect), model.insert_all(key, value)),
+        2 => assert_eq!(map.remove(&key), model.remove_all(key).first().copied()),
+        3 => assert_eq!(map.remove_all(&key).collect::<Vec<_>>(), model.remove_all(key)),
+        4 => assert_eq!(map.pop_front(), model.pop_front()),
+        5 => assert_eq!(map.pop_back(), model.pop_back()),
+        6 => {
+            let bits = random.next() | random.next();
+            let keep = |key: &u64, value: &u64| bits >> (key.wrapping_add(*value) % 64) & 1 == 1;
+            assert_eq!(map.retain(keep), model.retain(keep));
+        }
+        7 => {
+            let (members, rounds) = (random.below(300), random.below(1100));
+            assert_eq!(map.pack_to(members, rounds), model.pack_to(members, rounds));
+        }
+        8 => entry_call(map, model, key, value, random.below(3)),
+        9 if random.below(20) == 0 => {
+            map.clear();
+            model.clear();
+        }
+        _ => assert_eq!(map.append(key, value), model.append(key, value)),
+    }
+}
+
+fn entry_call(map: &mut ListOrderedMultimap, model: &mut Model, key: u64, value: u64, which: usize) {
+    match (map.entry(key), which) {
+        (Entry::Occupied(mut entry), 0) => assert_eq!(entry.append(value), model.append(key, value).map(|_| ())),
+        (Entry::Occupied(mut entry), 1) => assert_eq!(entry.insert(value), model.insert_all(key, value).unwrap()[0]),
+        (Entry::Occupied(entry), _) => assert_eq!(entry.remove_entry(), (key, model.remove_all(key)[0])),
+        (Entry::Vacant(entry), _) => {
+            assert!(!model.contains_key(key));
+            assert_eq!(entry.insert(value), model.append(key, value).map(|_| ()));
+        }
+    }
+}
+
+fn run(mix: &Mix, random: &mut Random) -> (usize, usize) {
+    let (mut map, mut model) = (ListOrderedMultimap::new(), Model::default());
+    let (mut most_members, mut most_rounds) = (0, 0);
+    for at in 0..mix.calls {
+        let key = mix.keys[random.below(mix.keys.len())];
+        let which = random.below(10 + mix.adding);
+        call(&mut map, &mut model, key, at as u64, which, random);
+        same_lists(&map, &model);
+        same_record(&map, &model, key);
+        if at % 32 == 0 {
+            same(&map, &model);
+        }
+        most_members = most_members.max(model.members.len());
+        most_rounds = most_rounds.max(model.pairs.len());
+    }
+    same(&map, &model);
+    (most_members, most_rounds)
+}
+
+#[test]
+fn random_lists_answer_as_the_model() {
+    let mut random = Random(20_240_607);
+    let reached: Vec<_> = mixes(&mut random).iter().map(|mix| run(mix, &mut random)).collect();
+    // The lists come to both limits, or the test would say little.
+    assert!(reached.iter().any(|most| most.0 == 256), "{reached:?}");
+    assert!(reached.iter().any(|most| most.1 == 1024), "{reached:?}");
+}
