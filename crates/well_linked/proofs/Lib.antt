@@ -6,3 +6,4 @@ pub mod Fill
 pub mod Linking
 pub mod Chaining
 pub mod Whole
+pub mod Represents
