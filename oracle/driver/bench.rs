@@ -51,6 +51,13 @@ fn shown(number: Option<f64>, digits: usize) -> String {
     }
 }
 
+// A number with a comma between thousands.
+pub fn grouped(number: usize) -> String {
+    let digits = number.to_string();
+    let parts: Vec<&str> = digits.as_bytes().rchunks(3).rev().map(|part| std::str::from_utf8(part).unwrap()).collect();
+    parts.join(",")
+}
+
 fn ratio(left: Option<f64>, right: Option<f64>) -> Option<f64> {
     Some(left? / right?)
 }

@@ -1,11 +1,14 @@
 // Runs lists of calls beside the Rust crate: on document 01's steps, on the crate and, where it is linked, on the port.
 
 mod bench;
+mod calls;
 mod compare;
 mod crate_map;
 #[cfg(port)]
 mod damage;
 mod faults;
+mod line_loads;
+mod lines;
 mod lists;
 mod mixes;
 mod model;
@@ -19,7 +22,8 @@ use model::OPS;
 use std::process::exit;
 use std::time::Instant;
 
-const USAGE: &str = "usage: driver quick [SEED] | full [SEED] | selftest | faults | mixes | damage [SEED] | bench";
+const USAGE: &str = "usage: driver quick [SEED] | full [SEED] | selftest | faults | mixes | damage [SEED] | bench
+       | calls [SEED] | lines [passes]";
 
 fn main() {
     let words: Vec<String> = std::env::args().skip(1).collect();
@@ -33,6 +37,8 @@ fn main() {
         ("mixes", _) => mixes::run(),
         #[cfg(port)]
         ("damage", Some(seed)) => damage::run(seed),
+        ("lines", _) => lines::run(words.get(1).is_some_and(|word| word == "passes")),
+        ("calls", Some(seed)) => calls::run(seed),
         ("bench", _) => bench::run(),
         _ => {
             eprintln!("{}", USAGE);

@@ -3,6 +3,7 @@
 
 use crate::compare::{Difference, Session};
 use crate::crate_map::{passes, strikes_neighbours, CrateMap};
+use crate::lines::{answer_chunk, Book};
 use crate::lists::{self, fnv, start_place, Random};
 use crate::model::{Answer, Call, Model, Op, MAX_ROUNDS};
 use crate::port::{answer_of, replay_with, words, ModelPort, Port, Tape};
@@ -18,6 +19,7 @@ pub fn run() -> bool {
         ("odd tapes end where they should", odd_tapes_end()),
         ("passes of retain", passes_do_what_marks_say()),
         ("another state of the crate is seen", other_states_are_seen()),
+        ("lines of document 01's example", lines_of_the_example()),
     ];
     checks.extend(WRONG.map(|(name, step)| (name, is_found(&|| Box::new(WrongPort(step))))));
     checks.push(("wrong: a removal leaves a gap in the index", is_found(&|| Box::new(GapPort))));
@@ -118,7 +120,8 @@ fn tapes_decode() -> bool {
         Answer::Count(4),
     ];
     let untouched = Tape::of(&list);
-    same && ran == due.len() as u64 && tape.answers == due.map(words).concat()
+    same && ran == due.len() as u64
+        && tape.answers == due.map(words).concat()
         && due.iter().all(|&answer| answer_of(&words(answer)) == Some(answer))
         && tape.outs[..5] == [10, 11, untouched.outs[2], 9, 7]
         && tape.outs[5..] == untouched.outs[5..]
@@ -210,6 +213,17 @@ fn other_states_are_seen() -> bool {
         map.difference(&model, 1).is_some()
     });
     seen && map.difference(&held(&pairs), 3).is_none()
+}
+
+// The input and the answers that module 8 has, in one chunk and byte by byte.
+fn lines_of_the_example() -> bool {
+    let input = b"a 7 10\na 9 20\na 7 11\ni 7 12\nl\nm\nb\nk 0\nl\n";
+    let due = b"new\nnew\npresent\nold 2 10 11\nlist 9:20 7:12\nkeys 7 9\npop 7 12 gone\nkept 0\nlist\n";
+    [input.len(), 1].iter().all(|&size| {
+        let (mut book, mut held, mut out) = (Book::new(false), Vec::new(), Vec::new());
+        let answered = input.chunks(size).try_for_each(|chunk| answer_chunk(&mut book, chunk, &mut held, &mut out));
+        answered.is_ok() && held.is_empty() && out == due
+    })
 }
 
 type Step = fn(&mut Model, &Call, &mut [u64], &mut [u64]) -> Answer;
