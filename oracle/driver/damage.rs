@@ -26,12 +26,19 @@ struct Map {
     taken: u32,
 }
 
+// What a call leaves: the map and its answer's four numbers.
+#[repr(C)]
+struct Reply {
+    map: Map,
+    answer: [u64; 4],
+}
+
 extern "C" {
     fn om_new() -> Map;
-    fn om_append(m: Map, k: u64, v: u64) -> Map;
-    fn om_remove(m: Map, k: u64) -> Map;
-    fn om_pop_front(m: Map) -> Map;
-    fn om_pop_back(m: Map) -> Map;
+    fn om_append(m: Map, k: u64, v: u64) -> Reply;
+    fn om_remove(m: Map, k: u64) -> Reply;
+    fn om_pop_front(m: Map) -> Reply;
+    fn om_pop_back(m: Map) -> Reply;
     fn om_well_linked(m: Map) -> u64;
 }
 
@@ -87,8 +94,12 @@ fn indexed(m: &Map, members: &[u16]) -> bool {
 }
 
 fn well_linked(m: &Map) -> bool {
-    let Some(members) = order(&m.next_key, &m.previous_key, m.keys_len, m.keys_fresh, m.keys_free) else { return false };
-    let Some(rounds) = order(&m.next_value, &m.previous_value, m.values_len, m.values_fresh, m.values_free) else { return false };
+    let Some(members) = order(&m.next_key, &m.previous_key, m.keys_len, m.keys_fresh, m.keys_free) else {
+        return false;
+    };
+    let Some(rounds) = order(&m.next_value, &m.previous_value, m.values_len, m.values_fresh, m.values_free) else {
+        return false;
+    };
     let known: HashSet<u16> = members.iter().copied().collect();
     let numbers: HashSet<u64> = members.iter().map(|p| m.keys[*p as usize]).collect();
     if numbers.len() != members.len() || rounds.iter().any(|r| !known.contains(&m.key_index[*r as usize])) {
@@ -117,10 +128,10 @@ fn sample(random: &mut Random) -> Map {
         let k = random.below(members) as u64;
         m = unsafe {
             match random.below(10) {
-                0 => om_remove(m, k),
-                1 => om_pop_front(m),
-                2 => om_pop_back(m),
-                _ => om_append(m, k, random.below(100) as u64),
+                0 => om_remove(m, k).map,
+                1 => om_pop_front(m).map,
+                2 => om_pop_back(m).map,
+                _ => om_append(m, k, random.below(100) as u64).map,
             }
         };
     }
@@ -176,7 +187,11 @@ pub fn run(seed: u64) -> bool {
             }
             let said = unsafe { om_well_linked(m) } == 1;
             other += (said != well_linked(&m)) as u64;
-            if said { yes += 1 } else { no += 1 }
+            if said {
+                yes += 1
+            } else {
+                no += 1
+            }
         }
     }
     println!("well_linked: {} records, {} well-linked, {} not, disagreements {}", yes + no, yes, no, other);

@@ -1,17 +1,28 @@
--- What the C face says by numbers, and by the map alone.
+-- What the C face says by numbers, beside what `Told` of crate answers says of the calls.
 use Prim.Native.Nat.{ℕ}
 use mathlib.Core.Path.{_≡_}
 use mathlib.Core.Logic.{_⊎_}
-use Rattle.steps.specs.Call.{Call, Outcome}
-use Rattle.steps.specs.Trace.{Does}
-use Rattle.multimap.specs.WellLinked.{linked}
+use mathlib.Core.List.{List}
+use Rattle.steps.specs.Call.{Answer}
+use Rattle.steps.specs.Step.{write}
+use Rattle.multimap.specs.Map.{stateOf}
 use Rattle.multimap.specs.declared.ListOrderedMultimap.{ListOrderedMultimap}
+use Rattle.answers.specs.Coded.{coded}
+use Rattle.image.specs.Image.{writeOf}
+use Rattle.image.specs.Answers.{Reads}
 
 -- 1 where P, 0 where not
 abbrev pub Tells : ℕ → Type 0 → Type 0
 Tells r P = ((r ≡ 1) × P) ⊎ ((r ≡ 0) × (P → ⊥))
 
--- r is the map after the call, whose outcome is the step's
-pub record Steps (c : Call) (m r : ListOrderedMultimap) : Type 0 where
-  pub outcome : Outcome
-  pub does : Does linked c m outcome r
+-- the image of m is written to `out`, which then holds out′, as the definition says; the answer's numbers are `ans`
+pub record Writes (m : ListOrderedMultimap) (out out′ ans : List ℕ) : Type 0 where
+  pub answer : Answer
+  pub writes : write answer out′ ≡ writeOf (stateOf m) out
+  pub ans-is : ans ≡ coded answer
+
+-- the bytes s are read as the map m, as the definition says; the answer's numbers are `ans`
+pub record Restores (s : List ℕ) (m : ListOrderedMultimap) (ans : List ℕ) : Type 0 where
+  pub answer : Answer
+  pub reads : Reads s answer m
+  pub ans-is : ans ≡ coded answer

@@ -9,7 +9,8 @@ use lib.Seq.{length-take-le}
 use borrow.Rule.Slice.PartMut.{putMid}
 use Rattle.multimap.specs.WellLinked.{WellLinked, linked}
 use Rattle.multimap.specs.declared.ListOrderedMultimap.{ListOrderedMultimap}
-use Rattle.replay.specs.Tape.{callOf, Turned}
+use Rattle.answers.specs.Told.{Told}
+use Rattle.replay.specs.Tape.{callOf}
 use Rattle.replay.specs.Place.{headAt, fitsHead, Ready, stopped, Past, Within, rest, At, Advanced}
 use Rattle.replay.specs.declared.Head.{Head}
 use Rattle.replay.specs.declared.Place.{Place}
@@ -55,7 +56,7 @@ module _ (calls marks : List ℕ) (p : Place) (outs outs2 ans : List ℕ) (m : L
         )
 
         pub goes-on : (q : Place) (m′ : ListOrderedMultimap) (o o2 k : List ℕ) → Past p h q → length o ≡ length (take n (drop (p .out) outs)) → length o2 ≡ length (take n2 (drop (p .out2) outs2))
-            → Turned linked (callOf (h .op) (h .k) (h .v) (take n (drop (p .out) outs)) (take n2 (drop (p .out2) outs2)) (take n3 (drop (p .mark) marks))) m m′ o o2 k
+            → Told linked (callOf (h .op) (h .k) (h .v) (take n (drop (p .out) outs)) (take n2 (drop (p .out2) outs2)) (take n3 (drop (p .mark) marks))) m m′ o o2 k
             → Advanced calls marks p outs outs2 ans m q (putMid (p .out) n outs o) (putMid (p .out2) n2 outs2 o2) (putMid (p .answer) b ans k) m′
         goes-on q m′ o o2 k past ol o2l t =
             record {

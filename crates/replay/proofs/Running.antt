@@ -11,8 +11,10 @@ use lib.ListN.{length, take, drop, getD, take-append-drop, length-append, length
 use lib.Seq.{drop-cons, drop-drop, take-at, drop-at, length-take-le}
 use borrow.Rule.Slice.PartMut.{putMid, same-len-mid}
 use Rattle.steps.specs.Trace.{Kind}
-use Rattle.replay.specs.Tape.{callOf, fits, decode, Turned, Ran, Reached}
-use Rattle.replay.proofs.Tapes.{decode-short, decode-not, Fits, fits-says, coded-length, ran-ended, ran-call}
+use Rattle.answers.specs.Told.{Told}
+use Rattle.replay.specs.Tape.{callOf, fits, decode, Ran, Reached}
+use Rattle.answers.proofs.Coded.{coded-length}
+use Rattle.replay.proofs.Tapes.{decode-short, decode-not, Fits, fits-says, ran-ended, ran-call}
 
 -- a part of xs from a on, of k elements, with ys put there
 module _ (xs ys : List ℕ) (a k : ℕ) (h : a + k ≤ length xs) (e : length ys ≡ k) where
@@ -90,7 +92,7 @@ module _ {Map : Type 0} (M : Kind Map) where
         (calls-in : i + 6 ≤ length calls)
         (f : fits (getD calls i 0) n n2 n3 (length outs - at) (length outs2 - at2) (length marks - at3) (length ans - a) ≡ true)
         (o-len : length o ≡ n) (o2-len : length o2 ≡ n2)
-        (t : Turned M (callOf (getD calls i 0) (getD calls (i + 1) 0) (getD calls (i + 2) 0) (take n (drop at outs)) (take n2 (drop at2 outs2)) (take n3 (drop at3 marks))) held held′ o o2 k) where
+        (t : Told M (callOf (getD calls i 0) (getD calls (i + 1) 0) (getD calls (i + 2) 0) (take n (drop at outs)) (take n2 (drop at2 outs2)) (take n3 (drop at3 marks))) held held′ o o2 k) where
       g : Fits (getD calls i 0) n n2 n3 (length outs - at) (length outs2 - at2) (length marks - at3) (length ans - a)
       g = fits-says (getD calls i 0) n n2 n3 (length outs - at) (length outs2 - at2) (length marks - at3) (length ans - a) f
 

@@ -13,7 +13,10 @@ use Rattle.steps.specs.Call as C
 use Rattle.steps.specs.Call.{Outcome}
 use Rattle.steps.specs.Step.{over, outcomes}
 use Rattle.steps.specs.Trace.{Kind, Trace, stop, call}
-use Rattle.replay.specs.Tape.{callOf, lends, known, fits, coded, decode, outsOf, outs2Of, answersOf, Turned, Ran}
+use Rattle.answers.specs.Coded.{coded}
+use Rattle.answers.proofs.Coded.{coded-length}
+use Rattle.answers.specs.Told.{Told}
+use Rattle.replay.specs.Tape.{callOf, lends, known, fits, decode, outsOf, outs2Of, answersOf, Ran}
 use Rattle.multimap.specs.Map.{stateOf}
 use Rattle.multimap.specs.WellLinked.{WellLinked, linked}
 use Rattle.multimap.specs.declared.ListOrderedMultimap.{ListOrderedMultimap}
@@ -90,40 +93,25 @@ join-over p L xs o n e f =
     ∙ sym (append-assoc p L (drop (n + length L) xs))
     ∙ ap (λ (j : ℕ). (p ++ L) ++ drop j xs) (sym (length-append p L ∙ ap (λ (j : ℕ). j + length L) e))
 
-pub coded-length : (a : C.Answer) → length (coded a) ≡ 4
-coded-length (C.refused n) = refl
-coded-length C.none = refl
-coded-length C.done = refl
-coded-length (C.round n) = refl
-coded-length (C.count n) = refl
-coded-length (C.present b) = refl
-coded-length (C.popped k v b) = refl
-coded-length (C.occupied n) = refl
-coded-length (C.vacant n) = refl
-
 -- four numbers stored one after the other into a slice of four
-pub coded-words : (a : C.Answer) (l : List ℕ) (w x y z : ℕ) → length l ≡ 4 → w ≡ getD (coded a) 0 0 → x ≡ getD (coded a) 1 0 → y ≡ getD (coded a) 2 0 → z ≡ getD (coded a) 3 0
-    → set (set (set (set l 0 w) 1 x) 2 y) 3 z ≡ coded a
-coded-words a l w x y z e p q r s = four l e ∙ rw (p, q, r, s) (whole a)
+pub stored-four : (l n : List ℕ) → length l ≡ 4 → length n ≡ 4 → set (set (set (set l 0 (getD n 0 0)) 1 (getD n 1 0)) 2 (getD n 2 0)) 3 (getD n 3 0) ≡ n
+stored-four l n e f = first l e ∙ last n f
   where
-    four : (l : List ℕ) → length l ≡ 4 → set (set (set (set l 0 w) 1 x) 2 y) 3 z ≡ w ∷ x ∷ y ∷ z ∷ []
-    four [] e = absurd (omega arith)
-    four (a ∷ []) e = absurd (omega arith)
-    four (a ∷ b ∷ []) e = absurd (omega arith)
-    four (a ∷ b ∷ c ∷ []) e = absurd (omega arith)
-    four (a ∷ b ∷ c ∷ d ∷ []) e = refl
-    four (a ∷ b ∷ c ∷ d ∷ g ∷ l) e = absurd (omega arith)
+    first : (l : List ℕ) → length l ≡ 4 → set (set (set (set l 0 (getD n 0 0)) 1 (getD n 1 0)) 2 (getD n 2 0)) 3 (getD n 3 0) ≡ getD n 0 0 ∷ getD n 1 0 ∷ getD n 2 0 ∷ getD n 3 0 ∷ []
+    first [] e = absurd (omega arith)
+    first (a ∷ []) e = absurd (omega arith)
+    first (a ∷ b ∷ []) e = absurd (omega arith)
+    first (a ∷ b ∷ c ∷ []) e = absurd (omega arith)
+    first (a ∷ b ∷ c ∷ d ∷ []) e = refl
+    first (a ∷ b ∷ c ∷ d ∷ g ∷ l) e = absurd (omega arith)
 
-    whole : (a : C.Answer) → getD (coded a) 0 0 ∷ getD (coded a) 1 0 ∷ getD (coded a) 2 0 ∷ getD (coded a) 3 0 ∷ [] ≡ coded a
-    whole (C.refused n) = refl
-    whole C.none = refl
-    whole C.done = refl
-    whole (C.round n) = refl
-    whole (C.count n) = refl
-    whole (C.present b) = refl
-    whole (C.popped k v b) = refl
-    whole (C.occupied n) = refl
-    whole (C.vacant n) = refl
+    last : (n : List ℕ) → length n ≡ 4 → getD n 0 0 ∷ getD n 1 0 ∷ getD n 2 0 ∷ getD n 3 0 ∷ [] ≡ n
+    last [] e = absurd (omega arith)
+    last (a ∷ []) e = absurd (omega arith)
+    last (a ∷ b ∷ []) e = absurd (omega arith)
+    last (a ∷ b ∷ c ∷ []) e = absurd (omega arith)
+    last (a ∷ b ∷ c ∷ d ∷ []) e = refl
+    last (a ∷ b ∷ c ∷ d ∷ g ∷ l) e = absurd (omega arith)
 
 module _ {Map : Type 0} (M : Kind Map) where
   pub ran-ended : (calls outs outs2 marks ans : List ℕ) (m : Map) → decode calls outs outs2 marks (length ans) ≡ [] → Ran M calls outs outs2 marks ans m outs outs2 ans m 0
@@ -131,7 +119,7 @@ module _ {Map : Type 0} (M : Kind Map) where
 
   pub ran-call : (op k v n n2 n3 : ℕ) (calls outs outs2 marks ans : List ℕ) (m m₁ m′ : Map) (out out2 an o o2 a : List ℕ) (t : ℕ)
       → fits op n n2 n3 (length outs) (length outs2) (length marks) (length ans) ≡ true → length out ≡ n → length out2 ≡ n2
-      → Turned M (callOf op k v (take n outs) (take n2 outs2) (take n3 marks)) m m₁ out out2 an
+      → Told M (callOf op k v (take n outs) (take n2 outs2) (take n3 marks)) m m₁ out out2 an
       → Ran M calls (drop n outs) (drop n2 outs2) (drop n3 marks) (drop 4 ans) m₁ o o2 a m′ t
       → Ran M (op ∷ k ∷ v ∷ n ∷ n2 ∷ n3 ∷ calls) outs outs2 marks ans m (out ++ o) (out2 ++ o2) (an ++ a) m′ (suc t)
   ran-call op k v n n2 n3 calls outs outs2 marks ans m m₁ m′ out out2 an o o2 a s e l l2 t r =

@@ -8,10 +8,11 @@ use Prim.Native.Nat.{ℕ, _+_, _*_, _-_, _≤_}
 use lib.Dec.{eqb, leb, ltb}
 use lib.ListN.{length, take, drop, getD}
 use Rattle.steps.specs.Lists.{any}
-use Rattle.steps.specs.Call.{Call, Answer, Outcome, refused, none, done, round, count, present, popped, occupied, vacant}
+use Rattle.steps.specs.Call.{Call, Outcome}
 use Rattle.steps.specs.Call.{append, insert, insert-all, remove, remove-all, entry, occupied-append, occupied-insert, occupied-remove-entry, vacant-insert, pop-front, pop-back, retain, pack-to, clear, get, get-all, entry-len, contains-key, keys, keys-len, values-len, iter, taken}
 use Rattle.steps.specs.Step.{over}
-use Rattle.steps.specs.Trace.{Kind, Does, Trace}
+use Rattle.steps.specs.Trace.{Kind, Trace}
+use Rattle.answers.specs.Coded.{coded}
 
 -- The calls by number, from 0.
 abbrev pub callOf : ℕ → ℕ → ℕ → List ℕ → List ℕ → List ℕ → Call
@@ -56,24 +57,6 @@ known op n n2 n3 = ltb op 24 && ((lends op || eqb n 0) && ((eqb op 22 || eqb n2 
 unfoldable pub fits : ℕ → ℕ → ℕ → ℕ → ℕ → ℕ → ℕ → ℕ → Bool
 fits op n n2 n3 room room2 room3 space = known op n n2 n3 && ((leb n room && leb n2 room2) && (leb n3 room3 && leb 4 space))
 
-abbrev pub bit : Bool → ℕ
-bit b = cond b 1 0
-
-abbrev pub words : ℕ → ℕ → ℕ → ℕ → List ℕ
-words a b c d = a ∷ b ∷ c ∷ d ∷ []
-
--- The four numbers of an answer.
-abbrev pub coded : Answer → List ℕ
-coded (refused n) = words 0 n 0 0
-coded none = words 1 0 0 0
-coded done = words 2 0 0 0
-coded (round v) = words 3 v 0 0
-coded (count n) = words 4 n 0 0
-coded (present b) = words 5 (bit b) 0 0
-coded (popped k v b) = words 6 k v (bit b)
-coded (occupied n) = words 7 n 0 0
-coded (vacant k) = words 8 k 0 0
-
 -- The calls that the slices hold, up to the end or to the first that does not fit; `space` numbers may be written as answers.
 unfoldable pub decode : List ℕ → List ℕ → List ℕ → List ℕ → ℕ → List Call
 decode [] outs outs2 marks space = []
@@ -101,14 +84,6 @@ answersOf [] = []
 answersOf (o ∷ os) = coded (o .answer) ++ answersOf os
 
 module _ {Map : Type 0} (M : Kind Map) where
-  -- What one call leaves: the map, its slices and its answer's numbers.
-  pub record Turned (c : Call) (m m′ : Map) (out out2 ans : List ℕ) : Type 0 where
-    pub outcome : Outcome
-    pub does : Does M c m outcome m′
-    pub out-is : out ≡ outcome .slices .out
-    pub out2-is : out2 ≡ outcome .slices .out2
-    pub ans-is : ans ≡ coded (outcome .answer)
-
   -- All calls that the slices hold were run, from m to m′, and they are n. What stands past that which the outcomes leave is kept.
   pub record Ran (calls outs outs2 marks ans : List ℕ) (m : Map) (outs′ outs2′ ans′ : List ℕ) (m′ : Map) (n : ℕ) : Type 0 where
     pub outcomes : List Outcome

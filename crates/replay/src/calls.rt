@@ -1,13 +1,12 @@
 // Each call of document 01, with its answer brought to one type. A read hands its map back.
-use crate::answers;
-use crate::answers::Answer;
+use answers::Answer;
 use multimap::ListOrderedMultimap;
 ghost use Rattle.steps.specs.Call as C;
 ghost use Rattle.steps.specs.Call.{lend};
 ghost use Rattle.steps.specs.Step.{say, write};
 ghost use Rattle.steps.specs.Trace.{Does};
 ghost use Rattle.multimap.specs.WellLinked.{WellLinked, linked};
-ghost use Rattle.replay.specs.Answers.{answerOf};
+ghost use Rattle.answers.specs.Answers.{answerOf};
 
 pub struct Given {
     pub map: ListOrderedMultimap,

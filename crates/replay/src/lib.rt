@@ -1,7 +1,7 @@
 // Runs the calls of a list held in slices, one after the other, on a map that starts empty.
-mod answers;
 mod calls;
 
+use answers::Answer;
 use calls::Given;
 use multimap::ListOrderedMultimap;
 ghost use mathlib.Core.Path.{_≡_};
@@ -11,8 +11,10 @@ ghost use lib.ListN.{length};
 ghost use Rattle.steps.specs.Call.{lend};
 ghost use Rattle.steps.specs.Trace.{Does};
 ghost use Rattle.multimap.specs.WellLinked.{WellLinked, linked};
-ghost use Rattle.replay.specs.Answers.{answerOf};
-ghost use Rattle.replay.specs.Tape.{callOf, lends as lendsOf, Turned, Ran};
+ghost use Rattle.answers.specs.Answers.{answerOf};
+ghost use Rattle.answers.specs.Coded.{coded};
+ghost use Rattle.answers.specs.Told.{Told};
+ghost use Rattle.replay.specs.Tape.{callOf, lends as lendsOf, Ran};
 ghost use Rattle.replay.specs.Place.{headAt, knownHead, fitsHead, Ready, stopped, Small, Past, Within, Advanced};
 ghost use Rattle.replay.specs.Played.{Played};
 
@@ -175,6 +177,18 @@ fn tick(
     }
 }
 
+// The four numbers of an answer, into a slice of four.
+fn code(a: Answer, ans: &mut [u64])
+    requires { ⌜ length (now ans) ≡ 4 ⌝ }
+    ensures { λ _. ⌜ now (ans .exit) ≡ coded (answerOf a) ⌝ }
+{
+    let numbers = answers::numbers(a);
+    ans[0] = numbers[0];
+    ans[1] = numbers[1];
+    ans[2] = numbers[2];
+    ans[3] = numbers[3];
+}
+
 // The same, with its answer's numbers in a slice of four.
 fn turn(
     m: ListOrderedMultimap,
@@ -185,7 +199,7 @@ fn turn(
     ans: &mut [u64],
 ) -> ListOrderedMultimap
     requires { ⌜ Ready m (h .op) (now out) (now out2) × (length (now ans) ≡ 4) ⌝ }
-    ensures { λ r. ⌜ Turned linked (callOf (h .op) (h .k) (h .v) (now (out .entry)) (now (out2 .entry)) (now (marks .entry))) m r
+    ensures { λ r. ⌜ Told linked (callOf (h .op) (h .k) (h .v) (now (out .entry)) (now (out2 .entry)) (now (marks .entry))) m r
         (now (out .exit)) (now (out2 .exit)) (now (ans .exit)) ⌝ }
 {
     let op = h.op;
@@ -193,7 +207,7 @@ fn turn(
     let v = h.v;
     let given = tick(m, op, k, v, out, out2, marks);
     let answer = given.answer;
-    answers::code(answer, ans);
+    code(answer, ans);
     given.map
 }
 

@@ -8,7 +8,8 @@ use lib.ListN.{length, take, drop}
 use borrow.Rule.Slice.PartMut.{putMid}
 use Rattle.multimap.specs.WellLinked.{linked}
 use Rattle.multimap.specs.declared.ListOrderedMultimap.{ListOrderedMultimap}
-use Rattle.replay.specs.Tape.{callOf, Turned}
+use Rattle.answers.specs.Told.{Told}
+use Rattle.replay.specs.Tape.{callOf}
 use Rattle.replay.specs.Place.{Ready, Advanced}
 use Rattle.replay.specs.declared.Head.{Head}
 use Rattle.replay.specs.declared.Place.{Place}
@@ -63,7 +64,7 @@ module _ (c : tie.After-after) where
   goes-on-here : (m′ : ListOrderedMultimap) (o o2 k : List ℕ)
       → length o ≡ length (take (q .out - at .args .p .out) (drop (at .args .p .out) (at .args .outs .now)))
       → length o2 ≡ length (take (q .out2 - at .args .p .out2) (drop (at .args .p .out2) (at .args .outs2 .now)))
-      → Turned linked
+      → Told linked
       (callOf (h .op) (h .k) (h .v) (take (q .out - at .args .p .out) (drop (at .args .p .out) (at .args .outs .now))) (take (q .out2 - at .args .p .out2) (drop (at .args .p .out2) (at .args .outs2 .now)))
       (take (q .mark - at .args .p .mark) (drop (at .args .p .mark) (at .args .marks .now))))
       (at .args .m) m′ o o2 k

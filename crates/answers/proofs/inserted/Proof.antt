@@ -1,0 +1,35 @@
+-- `answers::inserted` meets its contract. Assumes nothing.
+use mathlib.Core.Path.{sym, ap}
+use Rattle.changing.specs.InsertingAnswer.{insertedOf}
+use borrow.Author.Needs.{needs}
+use Rattle.answers.proofs.inserted.Statement.{statement}
+use Rattle.answers.proofs.inserted.Tie as tie
+
+enum-told : tie.Need-enum-told
+enum-told c = search needs
+
+enum-known-a : tie.Need-enum-known-a
+enum-known-a c = search needs
+
+enum-told-2 : tie.Need-enum-told-2
+enum-told-2 c = search needs
+
+enum-told-3 : tie.Need-enum-told-3
+enum-told-3 c = search needs
+
+returns : tie.Need-returns
+returns c = search needs
+
+returns-2 : tie.Need-returns-2
+returns-2 c = sym (ap insertedOf (c .before .a .given .1))
+
+returns-3 : tie.Need-returns-3
+returns-3 c = search needs
+
+returns-4 : tie.Need-returns-4
+returns-4 c = search needs
+
+pub inserted-spec : {M : Type 1} → statement M
+inserted-spec =
+    tie.close
+    (tie.spec enum-told enum-known-a enum-told-2 enum-told-3 returns returns-2 returns-3 returns-4)

@@ -1,0 +1,21 @@
+-- `exports::om_occupied_insert` meets its contract. Assumes nothing.
+use Rattle.answers.proofs.Told.{told}
+use borrow.Author.Needs.{needs}
+use Rattle.exports.proofs.om_occupied_insert.Statement.{statement}
+use Rattle.exports.proofs.om_occupied_insert.Tie as tie
+
+insert-requires : tie.Need-insert-requires
+insert-requires c κs = search needs
+
+first-requires : tie.Need-first-requires
+first-requires c κs = search needs
+
+numbers-requires : tie.Need-numbers-requires
+numbers-requires c κs = search needs
+
+returns : tie.Need-returns
+returns c = told (c .before .numbers .ensures) (c .before .before .first .ensures) (c .before .before .before .insert .ensures)
+
+pub om-occupied-insert-spec : {M : Type 1} → statement M
+om-occupied-insert-spec =
+    tie.close (tie.spec insert-requires first-requires numbers-requires returns)
