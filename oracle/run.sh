@@ -3,8 +3,8 @@
 # the port's static library (where crates.txt has the crate exports), the driver and, where its argument says so, the calls
 # program. Nothing is written to the repository outside target/.
 #
-#   oracle/run.sh [quick|full] [SEED]    the driver's own tests, the confirmed differences, the mixes of EntryValues and
-#                                        damaged records; then lists of calls (quick without an argument)
+#   oracle/run.sh [quick|full] [SEED]    the driver's own tests, the confirmed differences, the mixes of EntryValues, damaged
+#                                        records and images; then lists of calls (quick without an argument)
 #   oracle/run.sh calls [SEED]           the calls program beside the same lines over the crate
 #   oracle/run.sh bench                  the time of each call; then of the calls program
 #
@@ -46,7 +46,10 @@ quick | full)
     target/oracle/driver selftest
     target/oracle/driver faults
     target/oracle/driver mixes
-    [ -z "$port" ] || target/oracle/driver damage
+    if [ -n "$port" ]; then
+        target/oracle/driver damage
+        target/oracle/driver images
+    fi
     target/oracle/driver "$@"
     ;;
 calls)
