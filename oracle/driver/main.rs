@@ -1,7 +1,9 @@
 // Runs lists of calls beside the Rust crate: on document 01's steps, on the crate and, where it is linked, on the port.
 
 mod bench;
+mod bench_cases;
 mod calls;
+mod clock;
 mod compare;
 mod crate_map;
 #[cfg(port)]
