@@ -6,7 +6,6 @@ use std::fs::{self, File};
 use std::io::{self, Read};
 use std::path::{Path, PathBuf};
 use std::process::{Command, Stdio};
-use std::time::Instant;
 
 const CALLS: &str = "target/bin/calls";
 const FOLDER: &str = "target/oracle/lines";
@@ -14,7 +13,10 @@ const RUNS: usize = 5;
 
 // Prints a table. Are all answers alike?
 pub fn run(seed: u64) -> bool {
-    println!("The calls program beside a Rust program over the crate, seed {}, least times of {} runs.\n", seed, RUNS);
+    println!(
+        "Processor time, least of {} runs, of the calls program and of a Rust program over the crate; seed {}.\n",
+        RUNS, seed
+    );
     println!("| Lines | In | Out | calls | Rust over the crate | calls / Rust | Answers |");
     println!("|---|---|---|---|---|---|---|");
     let compared: io::Result<Vec<bool>> = LOADS.iter().map(|load| compare(load, seed)).collect();
@@ -62,15 +64,27 @@ fn file(load: &Load, end: &str) -> PathBuf {
     Path::new(FOLDER).join(format!("{}.{}", load.name, end))
 }
 
-// Runs a program on the lines; the seconds that it takes.
+// Runs a program on the lines; the seconds of processor time that it takes.
 fn answer(program: &Path, words: &[&str], input: &Path, out: Stdio) -> io::Result<f64> {
-    let start = Instant::now();
+    let before = time_of_children();
     let status = Command::new(program).args(words).stdin(File::open(input)?).stdout(out).status()?;
-    let seconds = start.elapsed().as_secs_f64();
     if status.success() {
-        return Ok(seconds);
+        return Ok(time_of_children() - before);
     }
     Err(io::Error::other(format!("{} ends with {}", program.display(), status)))
+}
+
+extern "C" {
+    fn getrusage(who: i32, usage: *mut [i64; 18]) -> i32;
+}
+
+// The seconds that the programs run so far took, in user code and in the kernel. The C library's record begins with both,
+// each as seconds and millionths.
+fn time_of_children() -> f64 {
+    let mut usage = [0; 18];
+    let failed = unsafe { getrusage(-1, &mut usage) };
+    assert_eq!(failed, 0, "getrusage fails");
+    (usage[0] + usage[2]) as f64 + (usage[1] + usage[3]) as f64 / 1e6
 }
 
 // Have the files the same bytes?
