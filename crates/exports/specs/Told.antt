@@ -1,4 +1,4 @@
--- What the C face says by numbers, beside what `Told` of crate answers says of the calls.
+-- What the exported functions say by numbers, beside the calls, of which `Told` of crate answers speaks.
 use Prim.Native.Nat.{ℕ}
 use mathlib.Core.Path.{_≡_}
 use mathlib.Core.Logic.{_⊎_}

@@ -1,5 +1,5 @@
-// The C face of the map: functions that Rust or C can link to. A map passes by value, in the layout that #[repr(C)] gives its record, and an
-// answer as the four numbers of `answers::numbers`.
+// Functions that Rust or C can link to: every call of document 01, the image, the check of any record, and lists of calls. A map passes by value,
+// in the layout that #[repr(C)] gives its record, and an answer as the four numbers of `answers::numbers`.
 use answers::Answer;
 use image::Reading;
 use image::Written;
@@ -17,14 +17,14 @@ ghost use Rattle.image.specs.Answers.{writtenOf, readingOf};
 ghost use Rattle.replay.specs.Played.{Played};
 ghost use Rattle.exports.specs.Told.{Tells, Writes, Restores};
 
-// What a call leaves: the map and its answer.
+// The map after a call, and the call's answer.
 #[repr(C)]
 pub struct Reply {
     pub map: ListOrderedMultimap,
     pub answer: [u64; 4],
 }
 
-// What a call that only reads answers.
+// The answer of a call that only reads.
 #[repr(C)]
 pub struct Said {
     pub answer: [u64; 4],
@@ -62,6 +62,7 @@ pub extern "C" fn om_well_linked(m: ListOrderedMultimap) -> u64
     if well_linked::well_linked(m) { 1 } else { 0 }
 }
 
+// The calls that may change the map.
 #[no_mangle]
 pub extern "C" fn om_append(m: ListOrderedMultimap, k: u64, v: u64) -> Reply
     requires { ⌜ WellLinked m ⌝ }
@@ -228,6 +229,7 @@ pub extern "C" fn om_clear(m: ListOrderedMultimap) -> Reply
     Reply { map, answer }
 }
 
+// The calls that only read.
 #[no_mangle]
 pub extern "C" fn om_entry(m: ListOrderedMultimap, k: u64) -> Said
     requires { ⌜ WellLinked m ⌝ }
@@ -328,6 +330,7 @@ pub extern "C" fn om_taken(m: ListOrderedMultimap) -> Said
     Said { answer }
 }
 
+// The answers of the image, brought to the type of the calls' answers.
 fn written(a: Written) -> Answer
     ensures { λ r. ⌜ answerOf r ≡ writtenOf a ⌝ }
 {
