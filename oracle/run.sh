@@ -58,6 +58,7 @@ calls)
     ;;
 bench)
     rt check calls
+    rustc --version
     target/oracle/driver bench
     echo
     target/oracle/driver calls

@@ -71,7 +71,7 @@ fn answer(program: &Path, words: &[&str], input: &Path, out: Stdio) -> io::Resul
     if status.success() {
         return Ok(time_of_children() - before);
     }
-    Err(io::Error::other(format!("{} ends with {}", program.display(), status)))
+    Err(io::Error::new(io::ErrorKind::Other, format!("{} ends with {}", program.display(), status)))
 }
 
 extern "C" {

@@ -57,30 +57,29 @@ fn indexed(m: &Map, members: &[u16]) -> bool {
 }
 
 fn well_linked(m: &Map) -> bool {
-    let Some(members) = order(&m.next_key, &m.previous_key, m.keys_len, m.keys_fresh, m.keys_free) else {
-        return false;
-    };
-    let Some(rounds) = order(&m.next_value, &m.previous_value, m.values_len, m.values_fresh, m.values_free) else {
-        return false;
-    };
-    let known: HashSet<u16> = members.iter().copied().collect();
-    let numbers: HashSet<u64> = members.iter().map(|p| m.keys[*p as usize]).collect();
-    if numbers.len() != members.len() || rounds.iter().any(|r| !known.contains(&m.key_index[*r as usize])) {
-        return false;
-    }
-    let chained = members.iter().all(|place| {
-        let record: Vec<u16> = rounds.iter().copied().filter(|r| m.key_index[*r as usize] == *place).collect();
-        let end = 1024 + *place;
-        let mut before = end;
-        for round in record.iter().chain(std::iter::once(&end)) {
-            if m.next_index[before as usize] != *round || m.previous_index[*round as usize] != before {
-                return false;
-            }
-            before = *round;
-        }
-        !record.is_empty() && m.length[*place as usize] as usize == record.len()
-    });
-    chained && indexed(m, &members)
+    let members = order(&m.next_key, &m.previous_key, m.keys_len, m.keys_fresh, m.keys_free);
+    let rounds = order(&m.next_value, &m.previous_value, m.values_len, m.values_fresh, m.values_free);
+    members.zip(rounds).map_or(false, |(members, rounds)| {
+        let known: HashSet<u16> = members.iter().copied().collect();
+        let numbers: HashSet<u64> = members.iter().map(|p| m.keys[*p as usize]).collect();
+        numbers.len() == members.len()
+            && rounds.iter().all(|r| known.contains(&m.key_index[*r as usize]))
+            && members.iter().all(|place| chained(m, *place, &rounds))
+            && indexed(m, &members)
+    })
+}
+
+// The links of the member's record have its rounds in their order, from both ends, and its length counts them.
+fn chained(m: &Map, place: u16, rounds: &[u16]) -> bool {
+    let record: Vec<u16> = rounds.iter().copied().filter(|r| m.key_index[*r as usize] == place).collect();
+    let end = 1024 + place;
+    let befores = std::iter::once(&end).chain(&record);
+    let afters = record.iter().chain(std::iter::once(&end));
+    !record.is_empty()
+        && m.length[place as usize] as usize == record.len()
+        && befores.zip(afters).all(|(before, after)| {
+            m.next_index[*before as usize] == *after && m.previous_index[*after as usize] == *before
+        })
 }
 
 // A well-linked map made by some calls.

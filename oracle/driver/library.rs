@@ -2,7 +2,8 @@
 //
 // A record of more than two words comes back through a pointer that is passed first (System V, amd64). A reply holds a whole
 // map, so the functions that give one are declared here with that pointer: the reply is written where it is to stand, where
-// Rust would let it be written elsewhere and copy it. The map that a call takes is copied once, by Rust, for its argument.
+// Rust would let it be written elsewhere and copy it. The map that a call takes is copied by Rust for its argument: once, or
+// twice by rustc 1.63.
 
 use crate::model::{Call, Op};
 use crate::port::{replay_with, Port, Tape};
@@ -108,7 +109,7 @@ pub struct PortMap {
 impl PortMap {
     pub fn new() -> PortMap {
         // every pattern of bits is a number, so 0 everywhere is a record; om_new then writes the map
-        let [mut now, next] = [(); 2].map(|_| unsafe { Box::<Reply>::new_zeroed().assume_init() });
+        let [mut now, next] = [(); 2].map(|_| Box::new(unsafe { std::mem::zeroed::<Reply>() }));
         unsafe { om_new(&mut now.map) };
         PortMap { now, next }
     }

@@ -46,7 +46,7 @@ fn main() {
         ("damage", Some(seed)) => damage::run(seed),
         #[cfg(port)]
         ("images", Some(seed)) => images::run(seed),
-        ("lines", _) => lines::run(words.get(1).is_some_and(|word| word == "passes")),
+        ("lines", _) => lines::run(words.get(1).map_or(false, |word| word == "passes")),
         ("calls", Some(seed)) => calls::run(seed),
         ("bench", _) => bench::run(),
         _ => {
