@@ -21,7 +21,6 @@ struct Reader {
 
 // Do both readings always agree?
 pub fn run(seed: u64) -> bool {
-    std::panic::set_hook(Box::new(|_| {}));
     println!("images, seed {}", seed);
     let mut reader = Reader { map: PortMap::new(), tally: Tally::default() };
     let outcome = changed_images(&mut reader).and_then(|()| random_strings(&mut reader, seed));
