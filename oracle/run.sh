@@ -1,10 +1,12 @@
 #!/bin/sh
 # Runs the comparison with the Rust crate, all of it from nothing: fetches by apt-get what is missing, builds the crate,
-# the port's static library (where crates.txt has the crate exports) and the driver, and runs the driver's own tests, the
-# confirmed differences, the mixes of EntryValues, damaged records and then what the argument says. Nothing is written to the repository outside target/.
+# the port's static library (where crates.txt has the crate exports), the driver and, where its argument says so, the calls
+# program. Nothing is written to the repository outside target/.
 #
-#   oracle/run.sh [quick|full] [SEED]    compare (quick without an argument)
-#   oracle/run.sh bench                  time each call
+#   oracle/run.sh [quick|full] [SEED]    the driver's own tests, the confirmed differences, the mixes of EntryValues, damaged
+#                                        records and images; then lists of calls (quick without an argument)
+#   oracle/run.sh calls [SEED]           the calls program beside the same lines over the crate
+#   oracle/run.sh bench                  the time of each call; then of the calls program
 #
 # ORACLE_SOURCE names list_ordered_multimap.rs where it does not stand beside the work tree (oracle/build.sh).
 set -eu
@@ -38,9 +40,30 @@ fi
 rustc --edition 2021 -O --crate-name driver $port -L dependency=target/oracle \
     --extern ordered_multimap=target/oracle/libordered_multimap.rlib -o target/oracle/driver oracle/driver/main.rs
 
-target/oracle/driver selftest
-target/oracle/driver faults
-target/oracle/driver mixes
-[ -z "$port" ] || target/oracle/driver damage
 [ $# -gt 0 ] || set -- quick
-target/oracle/driver "$@"
+case $1 in
+quick | full)
+    target/oracle/driver selftest
+    target/oracle/driver faults
+    target/oracle/driver mixes
+    if [ -n "$port" ]; then
+        target/oracle/driver damage
+        target/oracle/driver images
+    fi
+    target/oracle/driver "$@"
+    ;;
+calls)
+    rt check calls
+    target/oracle/driver "$@"
+    ;;
+bench)
+    rt check calls
+    rustc --version
+    target/oracle/driver bench
+    echo
+    target/oracle/driver calls
+    ;;
+*)
+    target/oracle/driver "$@"
+    ;;
+esac

@@ -24,10 +24,11 @@ pub struct Tally {
     // the most rounds and members held
     pub most_rounds: usize,
     pub most_members: usize,
-    // lists encoded and decoded again; tapes run by the port, and the calls on them
+    // lists encoded and decoded again; tapes run by the port, the calls on them, and of these the ones made one by one
     pub decoded: u64,
     pub tapes: u64,
     pub on_port: u64,
+    pub one_by_one: u64,
 }
 
 impl Tally {
@@ -67,13 +68,14 @@ impl Run {
 
 pub struct Session {
     pub tally: Tally,
-    port: Option<Box<dyn Port>>,
+    // the first runs every list, each other one every 16th
+    ports: Vec<Box<dyn Port>>,
     lists: u64,
 }
 
 impl Session {
-    pub fn new(port: Option<Box<dyn Port>>) -> Session {
-        Session { tally: Tally::default(), port, lists: 0 }
+    pub fn new(ports: Vec<Box<dyn Port>>) -> Session {
+        Session { tally: Tally::default(), ports, lists: 0 }
     }
 
     // Makes one call more of a list, and compares answer, slices and state.
@@ -128,14 +130,9 @@ impl Session {
     // before that were compared with another list. Without a port, some lists go through the tape's decoder.
     pub fn end(&mut self, run: &Run, from: usize) -> Result<(), Difference> {
         self.lists += 1;
-        if let Some(port) = &self.port {
+        if !self.ports.is_empty() {
             let tape = Tape::of(&with_reads(&run.list, from));
-            self.tally.tapes += 1;
-            self.tally.on_port += tape.calls.len() as u64 / 6;
-            return match tape_difference(port.as_ref(), &tape) {
-                Some(what) => Err(run.difference(what)),
-                None => Ok(()),
-            };
+            return self.run_tape(&tape).map_err(|what| run.difference(what));
         }
         if self.lists % 64 == 0 {
             self.tally.decoded += 1;
@@ -145,6 +142,16 @@ impl Session {
             }
         }
         Ok(())
+    }
+
+    // The tape on the ports whose turn it is.
+    fn run_tape(&mut self, tape: &Tape) -> Result<(), String> {
+        let turn = if self.lists % 16 == 1 { self.ports.len() } else { 1 };
+        let calls = tape.calls.len() as u64 / 6;
+        self.tally.tapes += 1;
+        self.tally.on_port += calls;
+        self.tally.one_by_one += calls * (turn as u64 - 1);
+        self.ports.iter().take(turn).try_for_each(|port| tape_difference(port.as_ref(), tape).map_or(Ok(()), Err))
     }
 
     // Runs a whole list.
@@ -158,7 +165,7 @@ impl Session {
 
     // The port's answer to a tape that is no encoded list.
     pub fn tape(&mut self, tape: &Tape) -> Result<(), Difference> {
-        let found = self.port.as_ref().and_then(|port| tape_difference(port.as_ref(), tape));
+        let found = self.ports.iter().find_map(|port| tape_difference(port.as_ref(), tape));
         match found {
             Some(what) => Err(Difference { list: tape.decode(), what }),
             None => Ok(()),

@@ -87,7 +87,7 @@ impl CrateMap {
         });
     }
 
-    fn retain_in_passes(&mut self, marks: &[u8]) {
+    pub fn retain_in_passes(&mut self, marks: &[u8]) {
         let members: Vec<u64> = self.map.iter().map(|pair| *pair.0).collect();
         for pass in passes(&members, marks) {
             self.retain(&pass);

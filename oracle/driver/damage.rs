@@ -1,46 +1,9 @@
 // Records damaged at random: the port's well_linked beside a check written here from document 01, module 6, with sets and plain loops.
 
+use crate::library::{Map, PortMap};
 use crate::lists::{start_place, Random};
+use crate::model::{Call, Op};
 use std::collections::HashSet;
-
-#[repr(C)]
-#[derive(Clone, Copy)]
-struct Map {
-    keys: [u64; 256],
-    length: [u16; 256],
-    next_key: [u16; 257],
-    previous_key: [u16; 257],
-    values: [u64; 1024],
-    key_index: [u16; 1024],
-    next_value: [u16; 1025],
-    previous_value: [u16; 1025],
-    next_index: [u16; 1280],
-    previous_index: [u16; 1280],
-    index: [u16; 512],
-    keys_len: u16,
-    keys_fresh: u16,
-    keys_free: u16,
-    values_len: u16,
-    values_fresh: u16,
-    values_free: u16,
-    taken: u32,
-}
-
-// What a call leaves: the map and its answer's four numbers.
-#[repr(C)]
-struct Reply {
-    map: Map,
-    answer: [u64; 4],
-}
-
-extern "C" {
-    fn om_new() -> Map;
-    fn om_append(m: Map, k: u64, v: u64) -> Reply;
-    fn om_remove(m: Map, k: u64) -> Reply;
-    fn om_pop_front(m: Map) -> Reply;
-    fn om_pop_back(m: Map) -> Reply;
-    fn om_well_linked(m: Map) -> u64;
-}
 
 // The places of a list in order, where its links and its freed places are right.
 fn order(next: &[u16], previous: &[u16], len: u16, fresh: u16, free: u16) -> Option<Vec<u16>> {
@@ -94,48 +57,46 @@ fn indexed(m: &Map, members: &[u16]) -> bool {
 }
 
 fn well_linked(m: &Map) -> bool {
-    let Some(members) = order(&m.next_key, &m.previous_key, m.keys_len, m.keys_fresh, m.keys_free) else {
-        return false;
-    };
-    let Some(rounds) = order(&m.next_value, &m.previous_value, m.values_len, m.values_fresh, m.values_free) else {
-        return false;
-    };
-    let known: HashSet<u16> = members.iter().copied().collect();
-    let numbers: HashSet<u64> = members.iter().map(|p| m.keys[*p as usize]).collect();
-    if numbers.len() != members.len() || rounds.iter().any(|r| !known.contains(&m.key_index[*r as usize])) {
-        return false;
-    }
-    let chained = members.iter().all(|place| {
-        let record: Vec<u16> = rounds.iter().copied().filter(|r| m.key_index[*r as usize] == *place).collect();
-        let end = 1024 + *place;
-        let mut before = end;
-        for round in record.iter().chain(std::iter::once(&end)) {
-            if m.next_index[before as usize] != *round || m.previous_index[*round as usize] != before {
-                return false;
-            }
-            before = *round;
-        }
-        !record.is_empty() && m.length[*place as usize] as usize == record.len()
-    });
-    chained && indexed(m, &members)
+    let members = order(&m.next_key, &m.previous_key, m.keys_len, m.keys_fresh, m.keys_free);
+    let rounds = order(&m.next_value, &m.previous_value, m.values_len, m.values_fresh, m.values_free);
+    members.zip(rounds).map_or(false, |(members, rounds)| {
+        let known: HashSet<u16> = members.iter().copied().collect();
+        let numbers: HashSet<u64> = members.iter().map(|p| m.keys[*p as usize]).collect();
+        numbers.len() == members.len()
+            && rounds.iter().all(|r| known.contains(&m.key_index[*r as usize]))
+            && members.iter().all(|place| chained(m, *place, &rounds))
+            && indexed(m, &members)
+    })
+}
+
+// The links of the member's record have its rounds in their order, from both ends, and its length counts them.
+fn chained(m: &Map, place: u16, rounds: &[u16]) -> bool {
+    let record: Vec<u16> = rounds.iter().copied().filter(|r| m.key_index[*r as usize] == place).collect();
+    let end = 1024 + place;
+    let befores = std::iter::once(&end).chain(&record);
+    let afters = record.iter().chain(std::iter::once(&end));
+    !record.is_empty()
+        && m.length[place as usize] as usize == record.len()
+        && befores.zip(afters).all(|(before, after)| {
+            m.next_index[*before as usize] == *after && m.previous_index[*after as usize] == *before
+        })
 }
 
 // A well-linked map made by some calls.
 fn sample(random: &mut Random) -> Map {
-    let mut m = unsafe { om_new() };
+    let mut map = PortMap::new();
     let (calls, members) = (random.below(40), 1 + random.below(12));
     for _ in 0..calls {
         let k = random.below(members) as u64;
-        m = unsafe {
-            match random.below(10) {
-                0 => om_remove(m, k).map,
-                1 => om_pop_front(m).map,
-                2 => om_pop_back(m).map,
-                _ => om_append(m, k, random.below(100) as u64).map,
-            }
+        let call = match random.below(10) {
+            0 => Call::new(Op::Remove, k, 0),
+            1 => Call::new(Op::PopFront, 0, 0),
+            2 => Call::new(Op::PopBack, 0, 0),
+            _ => Call::new(Op::Append, k, random.below(100) as u64),
         };
+        map.call(&call, &mut [], &mut []);
     }
-    m
+    *map.map()
 }
 
 // One number of the record set to another: near what it was, a place in use, or any.
@@ -185,7 +146,7 @@ pub fn run(seed: u64) -> bool {
             for _ in 0..round % 3 {
                 damage(&mut m, &mut random);
             }
-            let said = unsafe { om_well_linked(m) } == 1;
+            let said = m.well_linked();
             other += (said != well_linked(&m)) as u64;
             if said {
                 yes += 1

@@ -52,9 +52,9 @@ fn say(input: &str, crate_does: &str, list: &[Call]) -> bool {
     if !list.is_empty() {
         let due = last_answer(list, &ModelPort);
         println!("document: {}", due);
-        let found = port::linked().map(|port| last_answer(list, port.as_ref()));
-        agrees = found.as_ref().map_or(true, |found| *found == due);
-        println!("port:     {}", found.unwrap_or("not linked".to_string()));
+        let found: Vec<String> = port::linked().iter().map(|port| last_answer(list, port.as_ref())).collect();
+        agrees = found.iter().all(|found| *found == due);
+        println!("port:     {}", found.first().map_or("not linked", |found| found.as_str()));
     }
     println!();
     agrees

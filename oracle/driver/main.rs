@@ -1,11 +1,21 @@
 // Runs lists of calls beside the Rust crate: on document 01's steps, on the crate and, where it is linked, on the port.
 
 mod bench;
+mod bench_cases;
+mod calls;
+mod clock;
 mod compare;
 mod crate_map;
 #[cfg(port)]
 mod damage;
 mod faults;
+mod image;
+#[cfg(port)]
+mod images;
+#[cfg(port)]
+mod library;
+mod line_loads;
+mod lines;
 mod lists;
 mod mixes;
 mod model;
@@ -19,7 +29,8 @@ use model::OPS;
 use std::process::exit;
 use std::time::Instant;
 
-const USAGE: &str = "usage: driver quick [SEED] | full [SEED] | selftest | faults | mixes | damage [SEED] | bench";
+const USAGE: &str = "usage: driver quick [SEED] | full [SEED] | selftest | faults | mixes | damage [SEED]
+       | images [SEED] | calls [SEED] | lines [passes] | bench";
 
 fn main() {
     let words: Vec<String> = std::env::args().skip(1).collect();
@@ -33,6 +44,10 @@ fn main() {
         ("mixes", _) => mixes::run(),
         #[cfg(port)]
         ("damage", Some(seed)) => damage::run(seed),
+        #[cfg(port)]
+        ("images", Some(seed)) => images::run(seed),
+        ("lines", _) => lines::run(words.get(1).map_or(false, |word| word == "passes")),
+        ("calls", Some(seed)) => calls::run(seed),
         ("bench", _) => bench::run(),
         _ => {
             eprintln!("{}", USAGE);
@@ -104,7 +119,10 @@ fn print_tally(session: &Session) {
     println!("most rounds held: {}, most members held: {}", tally.most_rounds, tally.most_members);
     println!("retains given to the crate in several passes: {}", tally.split_retains);
     println!("lists encoded as tapes and decoded: {}", tally.decoded);
-    println!("tapes run by the port: {}, with {} calls", tally.tapes, tally.on_port);
+    println!(
+        "tapes run by the port: {}, with {} calls; made one by one: {} calls",
+        tally.tapes, tally.on_port, tally.one_by_one
+    );
 }
 
 fn print_difference(difference: &Difference) {

@@ -26,7 +26,8 @@ fn line(count: usize, mix: u32) -> String {
 // Compares every line with the stored ones. Are they alike?
 pub fn run() -> bool {
     let stored = std::fs::read_to_string("crates/entry_values_mixes/stdout").expect("run it in the repository");
-    let made: Vec<String> = (0..SLICE.len() + 2).flat_map(|count| (0..1 << CALLS).map(move |mix| line(count, mix))).collect();
+    let made: Vec<String> =
+        (0..SLICE.len() + 2).flat_map(|count| (0..1 << CALLS).map(move |mix| line(count, mix))).collect();
     let kept: Vec<&str> = stored.lines().collect();
     let other = made.iter().zip(&kept).filter(|(a, b)| a != b).count() + made.len().abs_diff(kept.len());
     println!("EntryValues: {} mixes of the crate beside the port's stored lines, {} differ", made.len(), other);

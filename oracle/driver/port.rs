@@ -1,4 +1,4 @@
-// The port, reached through one C function that runs a tape of calls from an empty map; and tapes.
+// Tapes of calls, and what runs them.
 
 use crate::model::{Answer, Call, Model, Op, OPS};
 
@@ -112,15 +112,15 @@ pub struct ModelPort;
 
 impl Port for ModelPort {
     fn replay(&self, tape: &mut Tape) -> u64 {
-        replay_with(tape, &mut Model::default(), Model::step)
+        replay_with(tape, &mut Model::default(), |model, call, out, out2| words(model.step(call, out, out2)))
     }
 }
 
-// Runs a tape with a step that takes the model's form.
+// Runs a tape by a step that makes one call with its lent slices and gives the four numbers of its answer.
 pub fn replay_with<State>(
     tape: &mut Tape,
     state: &mut State,
-    step: impl Fn(&mut State, &Call, &mut [u64], &mut [u64]) -> Answer,
+    step: impl Fn(&mut State, &Call, &mut [u64], &mut [u64]) -> [u64; 4],
 ) -> u64 {
     let list = tape.decode();
     let (mut out, mut out2) = (0, 0);
@@ -128,60 +128,21 @@ pub fn replay_with<State>(
         let lent = &mut tape.outs[out..out + call.out];
         let lent2 = &mut tape.outs2[out2..out2 + call.out2];
         let answer = step(state, call, lent, lent2);
-        tape.answers[4 * at..4 * at + 4].copy_from_slice(&words(answer));
+        tape.answers[4 * at..4 * at + 4].copy_from_slice(&answer);
         out += call.out;
         out2 += call.out2;
     }
     list.len() as u64
 }
 
-// The port itself, where its static library is linked (--cfg port).
-pub fn linked() -> Option<Box<dyn Port>> {
-    #[cfg(port)]
-    return Some(Box::new(library::Library));
-    #[cfg(not(port))]
-    return None;
+// The port itself, where its static library is linked (--cfg port): by its function for tapes, and by one function for each
+// call.
+#[cfg(port)]
+pub fn linked() -> Vec<Box<dyn Port>> {
+    vec![Box::new(crate::library::Tapes), Box::new(crate::library::SingleCalls)]
 }
 
-#[cfg(port)]
-mod library {
-    use super::{Port, Tape};
-
-    extern "C" {
-        // Each slice is a pointer and a length.
-        fn replay(
-            calls: *const u64,
-            calls_len: usize,
-            outs: *mut u64,
-            outs_len: usize,
-            outs2: *mut u64,
-            outs2_len: usize,
-            marks: *const u8,
-            marks_len: usize,
-            answers: *mut u64,
-            answers_len: usize,
-        ) -> u64;
-    }
-
-    pub struct Library;
-
-    impl Port for Library {
-        fn replay(&self, tape: &mut Tape) -> u64 {
-            // Each pointer and length are those of one vector, and the five vectors do not overlap.
-            unsafe {
-                replay(
-                    tape.calls.as_ptr(),
-                    tape.calls.len(),
-                    tape.outs.as_mut_ptr(),
-                    tape.outs.len(),
-                    tape.outs2.as_mut_ptr(),
-                    tape.outs2.len(),
-                    tape.marks.as_ptr(),
-                    tape.marks.len(),
-                    tape.answers.as_mut_ptr(),
-                    tape.answers.len(),
-                )
-            }
-        }
-    }
+#[cfg(not(port))]
+pub fn linked() -> Vec<Box<dyn Port>> {
+    Vec::new()
 }

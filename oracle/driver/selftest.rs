@@ -3,6 +3,8 @@
 
 use crate::compare::{Difference, Session};
 use crate::crate_map::{passes, strikes_neighbours, CrateMap};
+use crate::image;
+use crate::lines::{answer_chunk, Book};
 use crate::lists::{self, fnv, start_place, Random};
 use crate::model::{Answer, Call, Model, Op, MAX_ROUNDS};
 use crate::port::{answer_of, replay_with, words, ModelPort, Port, Tape};
@@ -18,6 +20,8 @@ pub fn run() -> bool {
         ("odd tapes end where they should", odd_tapes_end()),
         ("passes of retain", passes_do_what_marks_say()),
         ("another state of the crate is seen", other_states_are_seen()),
+        ("lines of document 01's example", lines_of_the_example()),
+        ("images by hand", images_by_hand()),
     ];
     checks.extend(WRONG.map(|(name, step)| (name, is_found(&|| Box::new(WrongPort(step))))));
     checks.push(("wrong: a removal leaves a gap in the index", is_found(&|| Box::new(GapPort))));
@@ -118,7 +122,8 @@ fn tapes_decode() -> bool {
         Answer::Count(4),
     ];
     let untouched = Tape::of(&list);
-    same && ran == due.len() as u64 && tape.answers == due.map(words).concat()
+    same && ran == due.len() as u64
+        && tape.answers == due.map(words).concat()
         && due.iter().all(|&answer| answer_of(&words(answer)) == Some(answer))
         && tape.outs[..5] == [10, 11, untouched.outs[2], 9, 7]
         && tape.outs[5..] == untouched.outs[5..]
@@ -212,6 +217,41 @@ fn other_states_are_seen() -> bool {
     seen && map.difference(&held(&pairs), 3).is_none()
 }
 
+// The input and the answers that module 8 has, in one chunk and byte by byte.
+fn lines_of_the_example() -> bool {
+    let input = b"a 7 10\na 9 20\na 7 11\ni 7 12\nl\nm\nb\nk 0\nl\n";
+    let due = b"new\nnew\npresent\nold 2 10 11\nlist 9:20 7:12\nkeys 7 9\npop 7 12 gone\nkept 0\nlist\n";
+    [input.len(), 1].iter().all(|&size| {
+        let (mut book, mut held, mut out) = (Book::new(false), Vec::new(), Vec::new());
+        let answered = input.chunks(size).try_for_each(|chunk| answer_chunk(&mut book, chunk, &mut held, &mut out));
+        answered.is_ok() && held.is_empty() && out == due
+    })
+}
+
+// An image written byte by byte, and strings that each row of the table turns away, later rows' conditions met too.
+fn images_by_hand() -> bool {
+    let model = held(&[(7, 10), (9, 0x0102), (7, 11)]);
+    let hand: Vec<u8> =
+        [[3, 0, 0, 0, 2, 0, 0, 0], [7, 0, 0, 0, 0, 0, 0, 0], [9, 0, 0, 0, 0, 0, 0, 0], [7, 0, 0, 0, 0, 0, 0, 0]]
+            .into_iter()
+            .chain([[10, 0, 0, 0, 0, 0, 0, 0], [2, 1, 0, 0, 0, 0, 0, 0], [11, 0, 0, 0, 0, 0, 0, 0]])
+            .flatten()
+            .collect();
+    let three_members = [&[3, 0, 0, 0, 3, 0, 0, 0], &hand[8..]].concat();
+    let refused: [(&[u8], u64); 6] = [
+        (&[255; 7], 11),
+        (&[1, 4, 0, 0, 0, 0, 0, 0], 12),
+        (&[0, 0, 0, 0, 1, 1, 0, 0], 12),
+        (&[0, 4, 0, 0, 0, 1, 0, 0], 13),
+        (&hand[..hand.len() - 1], 13),
+        (&three_members, 14),
+    ];
+    image::write(&model) == hand
+        && image::read(&hand) == Ok(model)
+        && image::read(&[0; 8]) == Ok(Model::default())
+        && refused.iter().all(|(bytes, number)| image::read(bytes) == Err(*number))
+}
+
 type Step = fn(&mut Model, &Call, &mut [u64], &mut [u64]) -> Answer;
 
 // The model with one fault each.
@@ -287,7 +327,7 @@ struct WrongPort(Step);
 
 impl Port for WrongPort {
     fn replay(&self, tape: &mut Tape) -> u64 {
-        replay_with(tape, &mut Model::default(), self.0)
+        replay_with(tape, &mut Model::default(), |model, call, out, out2| words((self.0)(model, call, out, out2)))
     }
 }
 
@@ -328,14 +368,15 @@ impl Indexed {
 
 impl Port for GapPort {
     fn replay(&self, tape: &mut Tape) -> u64 {
-        replay_with(tape, &mut Indexed { model: Model::default(), index: vec![None; 512] }, Indexed::step)
+        let mut indexed = Indexed { model: Model::default(), index: vec![None; 512] };
+        replay_with(tape, &mut indexed, |indexed, call, out, out2| words(indexed.step(call, out, out2)))
     }
 }
 
 // Does the comparison find a port that is wrong, and shrink the list that shows it?
 fn is_found(wrong: &dyn Fn() -> Box<dyn Port>) -> bool {
-    let compare = |list: &[Call]| Session::new(Some(wrong())).list(list).err();
-    find(Session::new(Some(wrong()))).map_or(false, |first| {
+    let compare = |list: &[Call]| Session::new(vec![wrong()]).list(list).err();
+    find(Session::new(vec![wrong()])).map_or(false, |first| {
         let smallest = shrink(first, 2, compare).list;
         compare(&smallest).is_some() && (smallest.len() <= 4 || smallest.len() >= MAX_ROUNDS)
     })

@@ -28,7 +28,7 @@ use Rattle.multimap.specs.declared.ListOrderedMultimap.{ListOrderedMultimap}
 use Rattle.multimap.proofs.Stores.{map-append}
 use Rattle.changing.specs.Strike.{Stretch, Struck, RoundPlace}
 use Rattle.changing.specs.Sweep.{idle, Sweepable, Swept}
-use Rattle.changing.specs.RemovingAnswer.{poppedOf, rest, PoppedAt}
+use Rattle.changing.specs.RemovingAnswer.{poppedOf, popOf, rest, PoppedAt}
 use Rattle.changing.specs.declared.removing.Popped.{Popped}
 use Rattle.changing.specs.declared.removing.Popped.the-variants as A
 use Rattle.changing.proofs.Leaving.{has-size, member-still, length-now, struck-sound, left-linked, left-state, all-have, leaves-one}
@@ -243,3 +243,19 @@ module _ (m : ListOrderedMultimap) (g : WellLinked m) where
         popped-so pop-back refl z
         (step-back (stateOf m) (pairAt m z) (rest m z)
         (ap (map (pairAt m)) (back .1 ∙ ap (λ (l : List ℕ). l ++ z ∷ []) (sym (order-without (roundsOf m) (g .chained .rounds) (back .0) z [] (back .1) ∙ append-nil (back .0)))) ∙ map-append (pairAt m) (without z ws) (z ∷ [])))
+
+-- the one pop or the other
+module _ (m : ListOrderedMultimap) (g : WellLinked m) where
+  pub pop-none : (b : Bool) → m .«values_len» ≡ 0 → Does linked (popOf b) m (say none) m
+  pop-none true = front-none m g
+  pop-none false = back-none m g
+
+  module _ (e : m .«values_len» ≢ 0) (x : ℕ) where
+    pub pop-round : (b : Bool) → x ≡ cond b (valueAt (m .«next_value») 1024) (valueAt (m .«previous_value») 1024) → RoundPlace m x
+    pop-round true i = rw i (front-round m g e)
+    pop-round false i = rw i (back-round m g e)
+
+    pub pop-popped : (b : Bool) → x ≡ cond b (valueAt (m .«next_value») 1024) (valueAt (m .«previous_value») 1024)
+        → (a : Popped) (r : ListOrderedMultimap) → PoppedAt m x a r → Does linked (popOf b) m (say (poppedOf a)) r
+    pop-popped true i a r p = front-popped m g e a r (subst (λ (y : ℕ). PoppedAt m y a r) i p)
+    pop-popped false i a r p = back-popped m g e a r (subst (λ (y : ℕ). PoppedAt m y a r) i p)

@@ -1,10 +1,10 @@
 -- Document 01's answer for each case of what `retain` and the pops answer; and what the two pops have in common.
 use Prim.Native.Nat.{ℕ}
 use mathlib.Core.Path.{_≡_}
-use mathlib.Core.Bool.{not}
+use mathlib.Core.Bool.{Bool, true, false, not}
 use mathlib.Core.List.{List, map}
 use Rattle.steps.specs.State.{Pair, has, remove-pair}
-use Rattle.steps.specs.Call.{Answer, none, popped, count, refused}
+use Rattle.steps.specs.Call.{Call, pop-front, pop-back, Answer, none, popped, count, refused}
 use Rattle.links.specs.Path.{without}
 use Rattle.links.specs.Places.{order}
 use Rattle.multimap.specs.Map.{pairAt, roundsOf, stateOf}
@@ -23,6 +23,11 @@ abbrev pub keptOf : Kept → Answer
 keptOf (Count n) = count n
 keptOf MarksCount = refused 7
 keptOf MarkValue = refused 8
+
+-- the pop from the front, or from the back
+abbrev pub popOf : Bool → Call
+popOf true = pop-front
+popOf false = pop-back
 
 -- the pairs, without that of the round in the place x
 abbrev pub rest : ListOrderedMultimap → ℕ → List Pair

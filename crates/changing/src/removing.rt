@@ -13,8 +13,7 @@ ghost use Rattle.steps.specs.Step.{say, write};
 ghost use Rattle.steps.specs.Trace.{Does};
 ghost use Rattle.multimap.specs.Answers.{gotOf, countedOf};
 ghost use Rattle.multimap.specs.WellLinked.{WellLinked, linked};
-ghost use Rattle.changing.specs.Strike.{RoundPlace};
-ghost use Rattle.changing.specs.RemovingAnswer.{poppedOf, keptOf, PoppedAt};
+ghost use Rattle.changing.specs.RemovingAnswer.{poppedOf, keptOf, popOf};
 
 pub struct Removal {
     pub map: ListOrderedMultimap,
@@ -100,19 +99,27 @@ pub struct Pop {
     pub answer: Popped,
 }
 
-// The round in the place leaves.
-fn pop_at(m: ListOrderedMultimap, place: u16) -> Pop
-    requires { ⌜ RoundPlace m place ⌝ }
-    ensures { λ r. ⌜ PoppedAt m place (r .answer) (r .map) ⌝ }
+// The first round leaves, or the last. The map is read in place: where an array of it is copied to be read at a fixed place, the
+// compiler cuts the copies of the record there, and they are slower.
+fn pop_from(mut m: ListOrderedMultimap, front: bool) -> Pop
+    requires { ⌜ WellLinked m ⌝ }
+    ensures { λ r. ⌜ Does linked (popOf front) m (say (poppedOf (r .answer))) (r .map) ⌝ }
 {
+    let held = m.values_len;
+    if held == 0 {
+        return Pop {
+            map: m,
+            answer: Popped::Nothing,
+        };
+    }
+    let first = m.next_value[1024];
+    let last = m.previous_value[1024];
+    let place = crate::choose(front, first.0, last.0);
     let x = place as usize;
-    let places = m.key_index;
-    let key = places[x];
+    let key = m.key_index[x];
     let k = key.0 as usize;
-    let keys = m.keys;
-    let member = keys[k];
-    let values = m.values;
-    let round = values[x];
+    let member = m.keys[k];
+    let round = m.values[x];
     let struck = crate::strike(m, false, place, 1, b"");
     let lengths = struck.length;
     let n = lengths[k];
@@ -134,16 +141,7 @@ pub fn pop_front(m: ListOrderedMultimap) -> Pop
     requires { ⌜ WellLinked m ⌝ }
     ensures { λ r. ⌜ Does linked popping-front m (say (poppedOf (r .answer))) (r .map) ⌝ }
 {
-    let held = m.values_len;
-    if held == 0 {
-        return Pop {
-            map: m,
-            answer: Popped::Nothing,
-        };
-    }
-    let next = m.next_value;
-    let first = next[1024];
-    pop_at(m, first.0)
+    pop_from(m, true)
 }
 
 // The last round leaves.
@@ -151,16 +149,7 @@ pub fn pop_back(m: ListOrderedMultimap) -> Pop
     requires { ⌜ WellLinked m ⌝ }
     ensures { λ r. ⌜ Does linked popping-back m (say (poppedOf (r .answer))) (r .map) ⌝ }
 {
-    let held = m.values_len;
-    if held == 0 {
-        return Pop {
-            map: m,
-            answer: Popped::Nothing,
-        };
-    }
-    let previous = m.previous_value;
-    let last = previous[1024];
-    pop_at(m, last.0)
+    pop_from(m, false)
 }
 
 // What `retain` answers: how many pairs are kept; or refused, by 7 or by 8.

@@ -1,0 +1,48 @@
+// The image of a map (document 01, module 7) written and read over plain lists, from the document.
+
+use crate::model::{Model, Pair, MAX_MEMBERS, MAX_ROUNDS};
+
+// Sizes first; then the members of all pairs, then their rounds.
+pub fn write(model: &Model) -> Vec<u8> {
+    let sizes = [model.pairs.len() as u32, model.members.len() as u32];
+    lay_out(sizes, &model.pairs)
+}
+
+// The same with sizes that may be wrong.
+pub fn lay_out(sizes: [u32; 2], pairs: &[Pair]) -> Vec<u8> {
+    let members = pairs.iter().flat_map(|pair| pair.0.to_le_bytes());
+    let rounds = pairs.iter().flat_map(|pair| pair.1.to_le_bytes());
+    sizes.iter().flat_map(|size| size.to_le_bytes()).chain(members).chain(rounds).collect()
+}
+
+// The map of an image, or the number of the first row of the table that turns it away.
+pub fn read(bytes: &[u8]) -> Result<Model, u64> {
+    if bytes.len() < 8 {
+        return Err(11);
+    }
+    let (n, m) = (number(&bytes[..4]), number(&bytes[4..8]));
+    if n > MAX_ROUNDS as u64 || m > MAX_MEMBERS as u64 {
+        return Err(12);
+    }
+    let n = n as usize;
+    if bytes.len() != 8 + 16 * n {
+        return Err(13);
+    }
+    let (members, rounds) = bytes[8..].split_at(8 * n);
+    let pairs: Vec<Pair> = members.chunks(8).map(number).zip(rounds.chunks(8).map(number)).collect();
+    let members = by_first_appearance(&pairs);
+    if m != members.len() as u64 {
+        return Err(14);
+    }
+    Ok(Model { pairs, members, taken: n as u64 })
+}
+
+// The number in some bytes, lowest first.
+fn number(bytes: &[u8]) -> u64 {
+    bytes.iter().rev().fold(0, |number, &byte| 256 * number + byte as u64)
+}
+
+pub fn by_first_appearance(pairs: &[Pair]) -> Vec<u64> {
+    let mut seen = std::collections::HashSet::new();
+    pairs.iter().map(|pair| pair.0).filter(|&member| seen.insert(member)).collect()
+}

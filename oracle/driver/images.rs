@@ -1,0 +1,165 @@
+// Byte strings read as images by the port and by `image.rs`, and the maps that they give written again.
+
+use crate::image;
+use crate::library::PortMap;
+use crate::lists::Random;
+use crate::model::{Answer, Call, Model, Op, Pair};
+use crate::port::{untouched, words};
+
+const RANDOM_STRINGS: u64 = 1_000_000;
+
+// How many strings were read, by the number of their refusal; 0 for none.
+#[derive(Default)]
+struct Tally {
+    by: [u64; 15],
+}
+
+struct Reader {
+    map: PortMap,
+    tally: Tally,
+}
+
+// Do both readings always agree?
+pub fn run(seed: u64) -> bool {
+    println!("images, seed {}", seed);
+    let mut reader = Reader { map: PortMap::new(), tally: Tally::default() };
+    let outcome = changed_images(&mut reader).and_then(|()| random_strings(&mut reader, seed));
+    match &outcome {
+        Ok(()) => println!("disagreements: 0"),
+        Err(found) => println!("disagreements: 1: {}", found),
+    }
+    outcome.is_ok()
+}
+
+fn print_tally(name: &str, tally: &Tally) {
+    let refused: Vec<String> = (11..15).map(|number| format!("refused by {}: {}", number, tally.by[number])).collect();
+    let all: u64 = tally.by.iter().sum();
+    println!("{}: {} byte strings, done: {}, {}", name, all, tally.by[0], refused.join(", "));
+}
+
+impl Reader {
+    // Reads the bytes on both sides, and compares answer and map; then writes the map again.
+    fn read(&mut self, bytes: &[u8]) -> Result<(), String> {
+        let due = image::read(bytes);
+        self.tally.by[*due.as_ref().err().unwrap_or(&0) as usize] += 1;
+        let answer = words(due.as_ref().map_or_else(|&number| Answer::Refused(number), |_| Answer::Done));
+        let found = self.map.read_image(bytes);
+        if found != answer {
+            return Err(format!("om_read_image answers {:?}, not {:?}, to {:?}", found, answer, bytes));
+        }
+        let model = due.unwrap_or_default();
+        self.compare(&model).and_then(|()| self.write(&model)).map_err(|what| format!("{}, after {:?}", what, bytes))
+    }
+
+    // The map beside the lists: pairs, members, T, and whether it is well-linked.
+    fn compare(&self, model: &Model) -> Result<(), String> {
+        let (n, m) = (model.pairs.len(), model.members.len());
+        let calls = [Call::iter(n + 1, n + 2), Call::lending(Op::Keys, 0, 0, m + 1), Call::new(Op::Taken, 0, 0)];
+        let mut lists = model.clone();
+        for call in &calls {
+            let (mut out, mut out2) = (untouched(call.out), untouched(call.out2));
+            let (mut due, mut due2) = (untouched(call.out), untouched(call.out2));
+            let found = self.map.read(call, &mut out, &mut out2);
+            let answer = words(lists.step(call, &mut due, &mut due2));
+            if (found, &out, &out2) != (answer, &due, &due2) {
+                return Err(format!("{} says {:?} {:?} {:?}", call, found, out, out2));
+            }
+        }
+        if !self.map.map().well_linked() {
+            return Err("the map is not well-linked".to_string());
+        }
+        Ok(())
+    }
+
+    // The map's image to a slice that is longer, one that is as long and two that are too short.
+    fn write(&self, model: &Model) -> Result<(), String> {
+        let image = image::write(model);
+        let len = image.len();
+        for room in [len + 3, len, len - 1, len / 2] {
+            let before: Vec<u8> = (0..room).map(|at| 1 + (at % 251) as u8).collect();
+            let (mut out, mut due) = (before.clone(), before);
+            let answer = if room < len { Answer::Refused(3) } else { Answer::Count(len as u64) };
+            if room >= len {
+                due[..len].copy_from_slice(&image);
+            }
+            let found = self.map.write_image(&mut out);
+            if (found, &out) != (words(answer), &due) {
+                return Err(format!("om_write_image to {} bytes says {:?} {:?}", room, found, out));
+            }
+        }
+        Ok(())
+    }
+}
+
+// Every arrangement of up to three rounds over three members: its image, each byte of it changed in turn to every value, its
+// beginnings of every length, and one byte more.
+fn changed_images(reader: &mut Reader) -> Result<(), String> {
+    let members = [0, 1, u64::MAX - 255];
+    for n in 0..=3 {
+        for number in 0..3usize.pow(n) {
+            let pairs: Vec<Pair> =
+                (0..n).map(|at| (members[number / 3usize.pow(at) % 3], 256 * at as u64 + 7)).collect();
+            let members = image::by_first_appearance(&pairs);
+            let whole = image::write(&Model { pairs, members, taken: 0 });
+            for at in 0..whole.len() {
+                let mut changed = whole.clone();
+                for value in 0..=255 {
+                    changed[at] = value;
+                    reader.read(&changed)?;
+                }
+                reader.read(&whole[..at])?;
+            }
+            reader.read(&[&whole[..], &[0]].concat())?;
+        }
+    }
+    print_tally("every byte of small images changed to every value", &reader.tally);
+    reader.tally = Tally::default();
+    Ok(())
+}
+
+fn random_strings(reader: &mut Reader, seed: u64) -> Result<(), String> {
+    let mut random = Random(seed);
+    for _ in 0..RANDOM_STRINGS {
+        reader.read(&random_string(&mut random))?;
+    }
+    print_tally("random", &reader.tally);
+    Ok(())
+}
+
+// Mostly an image with one thing of it changed, or none; sometimes any bytes.
+fn random_string(random: &mut Random) -> Vec<u8> {
+    if random.below(16) == 0 {
+        let length = random.below(48);
+        return (0..length).map(|_| random.next() as u8).collect();
+    }
+    let n = match random.below(64) {
+        0 => 1000 + random.below(30),
+        1 => random.below(1025),
+        _ => random.below(13),
+    };
+    let pool = [1, 3, 200, 256, 257, 1025][random.below(6)];
+    let far = random.below(2) as u64 * random.next();
+    let pairs: Vec<Pair> = (0..n).map(|_| (far.wrapping_add(random.below(pool) as u64), random.next())).collect();
+    let held = image::by_first_appearance(&pairs).len() as u32;
+    // with more than 256 members, m is wrong even where it is 256
+    let m = match random.below(16) {
+        0 => held.wrapping_sub(1),
+        1 => held + 1,
+        2 => held.min(256),
+        3 => 250 + random.below(10) as u32,
+        4 => random.next() as u32,
+        _ => held,
+    };
+    let mut bytes = image::lay_out([n as u32, m], &pairs);
+    match random.below(16) {
+        0 => bytes.truncate(random.below(bytes.len() + 1)),
+        1 => bytes.extend(vec![0; 1 + random.below(16)]),
+        2 => bytes[random.below(8)] = random.next() as u8,
+        3 => {
+            let at = random.below(bytes.len());
+            bytes[at] ^= 1 << random.below(8);
+        }
+        _ => {}
+    }
+    bytes
+}
