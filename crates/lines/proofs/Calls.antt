@@ -9,14 +9,14 @@ use native.Mathlib.Numerals.{add-one}
 use borrow.Author.Tests.{leb-true, leb-false}
 use lib.Dec.{leb}
 use lib.ListN.{length, getD, take, drop, set, length-drop, drop-of-length-le}
-use lib.Seq.{sets, sets-eq, drop-cons, take-all, take-append-seam}
+use lib.Seq.{sets-eq, drop-cons, take-all, take-append-seam}
 use Rattle.steps.specs.State.{State}
 use Rattle.steps.specs.Call.{Call, Outcome, Lent, retain}
 use Rattle.steps.specs.Step.{step, over}
 use Rattle.steps.specs.Trace.{Does}
 use Rattle.steps.specs.Accounting.{isRefused}
 use Rattle.multimap.specs.Map.{stateOf}
-use Rattle.multimap.specs.WellLinked.{WellLinked, linked}
+use Rattle.multimap.specs.WellLinked.{linked}
 use Rattle.multimap.specs.declared.ListOrderedMultimap.{ListOrderedMultimap}
 use Rattle.parsing.specs.Line.{Line, lineOf, keeps, bad, markOf}
 use Rattle.parsing.specs.Told.{told}

@@ -1,13 +1,13 @@
 -- Document 01's example of the calls program, by the definitions; and that an input printed from the fronts of its lines, however it comes
 -- in chunks, is printed as the definitions say. Assumes nothing.
 use Prim.Native.Nat.{ℕ}
-use mathlib.Core.Path.{_≡_, refl, sym, ap, _∙_}
+use mathlib.Core.Path.{_≡_, refl, ap, _∙_}
 use mathlib.Core.List.{List, [], _∷_, _++_, map}
 use native.Mathlib.Omega.{arith}
 use Rattle.steps.specs.State.{State, empty}
 use Rattle.steps.specs.Step.{step, checks, act}
 use Rattle.parsing.specs.Line.{Line, lineOf, fields}
-use Rattle.parsing.specs.Split.{linesOf, front, joined, Reads, gap}
+use Rattle.parsing.specs.Split.{linesOf, front, joined, Reads}
 use Rattle.parsing.proofs.Splits.{reads-lines, line-cut, gap-none}
 use Rattle.lines.specs.Text.{decimalOf, values, pairs}
 use Rattle.lines.specs.Answer.{answerOf, printed}

@@ -1,5 +1,5 @@
 // Bytes and numbers written into a slice from a place on. Each function answers the place after what it wrote.
-ghost use mathlib.Core.List.{_∷_, []};
+ghost use mathlib.Core.List.{_∷_};
 ghost use Prim.Native.Nat.{_+_, _*_, _≤_};
 ghost use mathlib.Core.Path.{_≡_};
 ghost use lib.ListN.{length};

@@ -3,7 +3,7 @@ use mathlib.Core.Path.{_≡_}
 use mathlib.Core.List.{List}
 use Rattle.steps.specs.State.{empty}
 use Rattle.steps.specs.Call.{Call, Outcome}
-use Rattle.steps.specs.Trace.{Trace, Along}
+use Rattle.steps.specs.Trace.{Trace}
 use Rattle.steps.proofs.Obeys.{obeys, along-linked}
 use Rattle.multimap.specs.Map.{stateOf}
 use Rattle.multimap.specs.WellLinked.{WellLinked, linked}

@@ -1,5 +1,5 @@
 -- What a line asks, by its letter and its fields. Assumes nothing.
-use Prim.Native.Nat.{ℕ, zero, suc, _+_, _-_, _≤_, _<_}
+use Prim.Native.Nat.{ℕ, suc, _+_, _-_, _≤_, _<_}
 use mathlib.Core.Path.{_≡_, refl, sym, ap, _∙_}
 use mathlib.Core.Bool.{Bool, true, false, cond, _&&_, and-false}
 use mathlib.Core.Logic.{⊎-elim}
@@ -12,7 +12,7 @@ use native.Mathlib.Nat.{eq-or-lt-of-le}
 use lib.Dec.{eqb, leb}
 use lib.Seq.{take-length}
 use lib.ListN.{length, getD, take, drop}
-use Rattle.parsing.specs.Line.{Line, adds, inserts, removes, keeps, bad, all, isDigit, isMark, markOf, numberOf, onto, fields, alone, with-one, with-two, one, two, marked, fielded, lettered, formOf, lineOf}
+use Rattle.parsing.specs.Line.{adds, inserts, removes, keeps, bad, all, isDigit, isMark, markOf, numberOf, onto, fields, alone, with-one, with-two, two, marked, fielded, formOf, lineOf}
 use Rattle.parsing.specs.Split.{gap}
 
 pub alone-bad : (c : ℕ) → (c ≡ 102 → ⊥) → (c ≡ 98 → ⊥) → (c ≡ 108 → ⊥) → (c ≡ 109 → ⊥) → (c ≡ 107 → ⊥) → bad ≡ alone c

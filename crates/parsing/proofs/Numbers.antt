@@ -1,19 +1,17 @@
 -- Laws of digits and marks read from the front. Assumes nothing.
-use Prim.Native.Nat.{ℕ, zero, suc, _+_, _*_, _-_, _^_, _≤_, _<_}
+use Prim.Native.Nat.{ℕ, suc, _+_, _*_, _-_, _^_, _≤_, _<_}
 use mathlib.Core.Path.{_≡_, refl, sym, ap, _∙_}
-use mathlib.Core.Bool.{Bool, true, false, cond, _&&_, _||_, and-false}
+use mathlib.Core.Bool.{Bool, false, cond, _&&_, and-false}
 use mathlib.Core.List.{List, [], _∷_}
-use mathlib.Core.Option.{Option, none, some}
+use mathlib.Core.Option.{none, some}
 use native.Mathlib.Omega.{arith}
 use borrow.Author.Tests.{lt-ltb, le-ltb, le-leb, lt-leb, eq-eqb, ne-eqb}
 use native.Mathlib.Numerals.{add-one}
-use lib.Dec.{ltb}
-use lib.ListN.{length, getD, drop, drop-of-length-le}
+use lib.ListN.{length, getD, drop}
 use lib.Seq.{drop-cons}
 use Rattle.parsing.specs.Line.{all, isDigit, isMark, valueOf, numberFrom, numberOf}
-use Rattle.parsing.specs.Told.{followed, below}
+use Rattle.parsing.specs.Told.{followed}
 use Rattle.parsing.specs.declared.Number.{Number}
-use Rattle.parsing.specs.declared.Number.the-variants.{Value, No}
 
 module _ (n b : ℕ) (bs : List ℕ) where
   pub low : b < 48 → none ≡ numberFrom n (b ∷ bs)

@@ -1,6 +1,6 @@
 -- What a refusal leaves, and which comes first where several conditions hold (document 01, "When a call is refused"). Assumes nothing.
-use mathlib.Core.Path.{_≡_, refl, ap, sym, _∙_}
-use mathlib.Core.Bool.{Bool, true, false, cond, not, true≢false}
+use mathlib.Core.Path.{_≡_, refl, sym, _∙_}
+use mathlib.Core.Bool.{Bool, true, false, cond, true≢false}
 use mathlib.Core.List.{List, [], _∷_, head?, tail, dropLast}
 use mathlib.Core.Option.{Option, none, some}
 use Prim.Native.Nat.{ℕ}
@@ -8,7 +8,7 @@ use lib.Dec.{eqb, ltb}
 use lib.ListN.{length}
 use Rattle.steps.specs.State as St
 use Rattle.steps.specs.Lists.{last?}
-use Rattle.steps.specs.State.{State, Pair, full, crowded, absent, rounds, maxRounds, maxMembers}
+use Rattle.steps.specs.State.{State, Pair, full, crowded, absent, rounds}
 use Rattle.steps.specs.Call.{Call, lent, present, append, insert, insert-all, remove, remove-all, entry, occupied-append, occupied-insert, occupied-remove-entry, vacant-insert, pop-front, pop-back, retain, pack-to, clear, get, get-all, entry-len, contains-key, keys, keys-len, values-len, iter, taken}
 use Rattle.steps.specs.Step.{checks, refusal, refusing, first, entryOf, pop, act, settle, step, say, short}
 use Rattle.steps.specs.Accounting.{isRefused}

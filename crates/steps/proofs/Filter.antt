@@ -1,11 +1,11 @@
 -- Laws of filter, any and all.
 use mathlib.Core.Path.{_≡_, refl, ap, sym, _∙_}
 use mathlib.Core.Bool.{Bool, true, false, cond, not, _&&_, _||_, false≢true, true≢false}
-use mathlib.Core.List.{List, [], _∷_, _++_, map}
-use Prim.Native.Nat.{ℕ, zero, suc, _+_, _≤_, _<_}
+use mathlib.Core.List.{List, [], _∷_, _++_}
+use Prim.Native.Nat.{suc, _+_, _≤_}
 use native.Mathlib.Omega.{arith}
-use lib.ListN.{length, length-map}
-use Rattle.steps.specs.Lists.{filter, any, all}
+use lib.ListN.{length}
+use Rattle.steps.specs.Lists.{filter, any}
 
 module _ {A : Type 0} where
   abbrev pub nonempty : List A → Bool

@@ -1,17 +1,17 @@
 -- Each thing that a step does to the state keeps it proper.
 use mathlib.Core.Path.{_≡_, refl, ap, sym, _∙_}
-use mathlib.Core.Bool.{Bool, true, false, cond, not, _&&_, _||_, false≢true, true≢false}
-use mathlib.Core.List.{List, [], _∷_, _++_, map}
-use Prim.Native.Nat.{ℕ, zero, suc, _+_, _≤_, _<_}
+use mathlib.Core.Bool.{Bool, true, false, cond, not, _||_}
+use mathlib.Core.List.{List, [], _∷_, _++_}
+use Prim.Native.Nat.{ℕ, _+_, _≤_}
 use native.Mathlib.Omega.{arith}
 use lib.Dec.{eqb}
 use lib.ListN.{length, length-append}
-use borrow.Author.Tests.{eqb-true, eqb-false, eq-eqb, ne-eqb, leb-false}
-use Rattle.steps.specs.Lists.{filter, any, all}
-use Rattle.steps.specs.State.{State, Pair, of, has, others, kept, leave, present, absent, full, crowded, add, replace, remove-member, remove-pair, keep, maxRounds, maxMembers}
+use borrow.Author.Tests.{eqb-true, eqb-false, eq-eqb, ne-eqb}
+use Rattle.steps.specs.Lists.{filter, any}
+use Rattle.steps.specs.State.{State, Pair, of, has, others, leave, present}
 use Rattle.steps.specs.Accounting.{times}
 use Rattle.steps.specs.Proper.{Proper}
-use Rattle.steps.proofs.Filter.{nonempty, any-filter, filter-append, filter-in, filter-out, length-split, length-filter, any-one, any-none, any-append}
+use Rattle.steps.proofs.Filter.{nonempty, any-filter, filter-append, filter-in, filter-out, any-one, any-none, any-append}
 
 pub eqb-refl : (k : ℕ) → eqb k k ≡ true
 eqb-refl k = eq-eqb k k refl

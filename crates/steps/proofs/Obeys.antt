@@ -1,15 +1,13 @@
 -- A map whose functions each do their step obeys every list of calls.
-use mathlib.Core.Path.{_≡_, refl, ap, ap₂, sym, subst, _∙_}
+use mathlib.Core.Path.{_≡_, refl, ap, sym, subst, _∙_}
 use mathlib.Core.Logic.{_↔_}
-use mathlib.Core.Bool.{Bool, true, false}
-use mathlib.Core.List.{List, [], _∷_}
-use Prim.Native.Nat.{ℕ, _+_}
+use mathlib.Core.List.{List}
 use native.Mathlib.Omega.{arith}
 use lib.ListN.{length}
 use Rattle.steps.specs.State.{State, empty, maxRounds}
-use Rattle.steps.specs.Call.{Call, Outcome, refused, append, pack-to}
+use Rattle.steps.specs.Call.{Call, Outcome, refused}
 use Rattle.steps.specs.Step.{step, after, outcomes}
-use Rattle.steps.specs.Accounting.{isRefused, Flow, moves, sum, flowOf}
+use Rattle.steps.specs.Accounting.{flowOf}
 use Rattle.steps.specs.Proper.{Proper}
 use Rattle.steps.specs.Trace.{Kind, Does, Trace, stop, call, Along, flowAlong, AppendExact, RefusedSame, PackedAfter, Obeys}
 use Rattle.steps.proofs.Proper.{proper-empty, step-proper, after-proper}

@@ -1,23 +1,21 @@
 -- From the empty state on, and whatever the calls: P and K are proper.
 use mathlib.Core.Path.{_≡_, refl, ap, sym, _∙_}
-use mathlib.Core.Bool.{Bool, true, false, cond, not, _&&_, _||_, false≢true, true≢false}
-use mathlib.Core.List.{List, [], _∷_, _++_, map, head?, tail, dropLast}
+use mathlib.Core.Bool.{Bool, true, false, cond, not, _&&_, _||_, false≢true}
+use mathlib.Core.List.{List, [], _∷_, _++_, head?, tail, dropLast}
 use mathlib.Core.Option.{Option, none, some}
-use Prim.Native.Nat.{ℕ, zero, suc, _+_, _≤_, _<_}
+use Prim.Native.Nat.{ℕ, suc, _+_, _≤_}
 use native.Mathlib.Omega.{arith}
-use lib.Dec.{eqb, leb}
+use lib.Dec.{eqb}
 use lib.ListN.{length, length-append}
 use borrow.Author.Tests.{leb-false}
-use Rattle.steps.specs.Lists.{filter, any, all, last?}
+use Rattle.steps.specs.Lists.{last?}
 use Rattle.steps.specs.State as St
 use Rattle.steps.specs.State.{State, Pair, empty, of, has, others, kept, leave, absent, full, crowded, add, replace, remove-member, remove-pair, keep, maxRounds, maxMembers}
-use Rattle.steps.specs.Call as C
 use Rattle.steps.specs.Call.{Call, append, insert, insert-all, remove, remove-all, entry, occupied-append, occupied-insert, occupied-remove-entry, vacant-insert, pop-front, pop-back, retain, pack-to, clear, get, get-all, entry-len, contains-key, keys, keys-len, values-len, iter, taken}
 use Rattle.steps.specs.Step.{Check, checks, refusal, pop, act, settle, step, after}
-use Rattle.steps.specs.Accounting.{times}
 use Rattle.steps.specs.Proper.{Proper}
 use Rattle.steps.proofs.Filter.{length-split, length-filter, any-one, any-append}
-use Rattle.steps.proofs.Keeps.{Once, present-has, has-others, once-add, once-remove-member, once-off, once-keep, or-false, eqb-refl}
+use Rattle.steps.proofs.Keeps.{present-has, has-others, once-add, once-remove-member, once-off, once-keep, or-false, eqb-refl}
 
 -- the conditions of a call that is not refused: none holds
 abbrev pub Pass : List Check → Type 0

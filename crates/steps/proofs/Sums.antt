@@ -1,25 +1,23 @@
 -- Over every list of calls the accepted rounds are those held, handed out and dropped; and when an append is refused.
-use mathlib.Core.Path.{_≡_, refl, ap, sym, _∙_}
+use mathlib.Core.Path.{_≡_, refl}
 use mathlib.Core.Logic.{_↔_}
-use mathlib.Core.Bool.{Bool, true, false, cond, not, _&&_, _||_, false≢true, true≢false}
-use mathlib.Core.List.{List, [], _∷_, _++_, map, head?, tail, dropLast}
+use mathlib.Core.Bool.{Bool, true, false, cond, _&&_, _||_, false≢true}
+use mathlib.Core.List.{List, [], _∷_, _++_, head?, tail, dropLast}
 use mathlib.Core.Option.{Option, none, some}
-use Prim.Native.Nat.{ℕ, zero, suc, _+_, _-_, _≤_, _<_}
+use Prim.Native.Nat.{ℕ, suc, _+_, _-_}
 use native.Mathlib.Omega.{arith}
-use lib.Dec.{eqb, leb}
+use lib.Dec.{eqb}
 use lib.ListN.{length, getD, length-append, length-map}
-use borrow.Author.Tests.{leb-false, leb-true, le-leb, lt-leb, eqb-true, not-false}
-use Rattle.steps.specs.Lists.{filter, any, all, last?}
-use Rattle.steps.specs.State as St
-use Rattle.steps.specs.State.{State, Pair, empty, of, has, others, kept, rounds, leave, absent, full, crowded, add, replace, remove-member, remove-pair, keep, maxRounds, maxMembers}
-use Rattle.steps.specs.Call as C
-use Rattle.steps.specs.Call.{Call, Answer, Outcome, refused, append, insert, insert-all, remove, remove-all, entry, occupied-append, occupied-insert, occupied-remove-entry, vacant-insert, pop-front, pop-back, retain, pack-to, clear, get, get-all, entry-len, contains-key, keys, keys-len, values-len, iter, taken}
-use Rattle.steps.specs.Step.{Check, checks, refusal, first, entryOf, pop, act, settle, step, outcomes, after}
-use Rattle.steps.specs.Accounting.{times, isRefused, roundsIn, Flow, moved, moves, sum, flowOf}
+use borrow.Author.Tests.{leb-false, leb-true, eqb-true, not-false}
+use Rattle.steps.specs.Lists.{filter, all, last?}
+use Rattle.steps.specs.State.{State, Pair, empty, of, others, kept, rounds, absent, full, crowded, maxRounds}
+use Rattle.steps.specs.Call.{Call, Outcome, refused, append, insert, insert-all, remove, remove-all, entry, occupied-append, occupied-insert, occupied-remove-entry, vacant-insert, pop-front, pop-back, retain, pack-to, clear, get, get-all, entry-len, contains-key, keys, keys-len, values-len, iter, taken}
+use Rattle.steps.specs.Step.{checks, refusal, first, pop, act, settle, step, outcomes, after}
+use Rattle.steps.specs.Accounting.{times, roundsIn, Flow, moved, moves, flowOf}
 use Rattle.steps.specs.Proper.{Proper}
 use Rattle.steps.proofs.Filter.{length-split}
 use Rattle.steps.proofs.Checks.{accepting}
-use Rattle.steps.proofs.Proper.{Pass, passed, End, nothing, pair, front, back, proper-empty, step-proper, after-proper}
+use Rattle.steps.proofs.Proper.{Pass, passed, End, nothing, pair, front, back, proper-empty, after-proper}
 
 -- n rounds held before, those of the flow accepted, handed out and dropped, and m held after
 abbrev pub Balanced : ℕ → Flow → ℕ → Type 0

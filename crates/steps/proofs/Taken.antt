@@ -1,13 +1,12 @@
 -- T counts the adds that are not refused, up to its ceiling. Assumes nothing.
-use mathlib.Core.Path.{_≡_, refl, sym, _∙_}
-use mathlib.Core.Bool.{Bool, true, false}
+use mathlib.Core.Path.{_≡_, refl}
 use mathlib.Core.List.{List, [], _∷_, head?, tail, dropLast}
 use mathlib.Core.Option.{Option, none, some}
 use Prim.Native.Nat.{ℕ, _+_, _≤_, min}
 use native.Mathlib.Omega.{arith}
 use Rattle.steps.specs.Lists.{last?}
 use Rattle.steps.specs.State.{State, Pair, empty, maxTaken}
-use Rattle.steps.specs.Call.{Call, Outcome}
+use Rattle.steps.specs.Call.{Call}
 use Rattle.steps.specs.Call.{append, insert, insert-all, remove, remove-all, entry, occupied-append, occupied-insert, occupied-remove-entry, vacant-insert, pop-front, pop-back, retain, pack-to, clear, get, get-all, entry-len, contains-key, keys, keys-len, values-len, iter, taken}
 use Rattle.steps.specs.Step.{checks, refusal, pop, act, settle, step, after}
 use Rattle.steps.specs.Accounting.{moved, moves, flowOf}

@@ -1,6 +1,6 @@
 -- The calls of document 01, "The steps", each with its arguments, among them what its lent slices hold at the start; and what a call answers.
 use mathlib.Core.Bool.{Bool}
-use mathlib.Core.List.{List, [], _∷_}
+use mathlib.Core.List.{List, []}
 use Prim.Native.Nat.{ℕ}
 
 pub data Call : Type 0 where

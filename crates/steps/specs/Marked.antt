@@ -1,12 +1,12 @@
 -- The ten marked cases of document 01, as a single table. proofs/Marked.antt proves it of the steps.
-use mathlib.Core.Bool.{Bool, true, false, cond}
-use mathlib.Core.List.{List, [], _∷_, _++_, map}
+use mathlib.Core.Bool.{true, false, cond}
+use mathlib.Core.List.{List, [], _∷_, _++_}
 use Prim.Native.Nat.{ℕ}
 use lib.Dec.{eqb}
 use lib.ListN.{length}
 use Rattle.steps.specs.Lists.{any}
 use Rattle.steps.specs.State.{State, Pair}
-use Rattle.steps.specs.Call.{Call, Outcome, refused, none, done, round, count, present, popped, append, insert-all, remove-all, pop-front, pop-back, retain, pack-to}
+use Rattle.steps.specs.Call.{Call, Outcome, refused, none, count, present, popped, append, insert-all, remove-all, pop-front, pop-back, retain, pack-to}
 use Rattle.steps.specs.Step.{step, say, write}
 
 infixr 90 _∶_

@@ -1,6 +1,6 @@
 -- What holds of P, K and T from the empty state on: what module 6 of document 01 asks of them, and the limits of a map.
 use mathlib.Core.Path.{_≡_}
-use mathlib.Core.Bool.{Bool, cond}
+use mathlib.Core.Bool.{cond}
 use Prim.Native.Nat.{ℕ, _≤_}
 use lib.Dec.{eqb}
 use lib.ListN.{length}

@@ -1,9 +1,9 @@
 -- The state of the steps (document 01, "The steps"), and what the steps do to it.
-use mathlib.Core.Bool.{Bool, true, false, cond, not, _&&_, _||_}
+use mathlib.Core.Bool.{Bool, cond, not}
 use mathlib.Core.List.{List, [], _∷_, _++_, map}
 use Prim.Native.Nat.{ℕ, _+_, min}
 use lib.Dec.{eqb, leb}
-use lib.ListN.{length, drop}
+use lib.ListN.{length}
 use Rattle.steps.specs.Lists.{filter, any}
 
 -- A pair (member, round).

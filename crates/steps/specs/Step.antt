@@ -9,7 +9,7 @@ use lib.ListN.{length, drop}
 use Rattle.steps.specs.Lists.{all, last?}
 use Rattle.steps.specs.State as St
 use Rattle.steps.specs.State.{State, Pair, full, crowded, absent, rounds, add, replace, remove-member, remove-pair, keep, kept, has, maxRounds, maxMembers}
-use Rattle.steps.specs.Call.{Call, Lent, lend, lent, Answer, Outcome, refused, none, done, round, count, present, popped, occupied, vacant}
+use Rattle.steps.specs.Call.{Call, lend, lent, Answer, Outcome, refused, none, done, round, count, present, popped, occupied, vacant}
 use Rattle.steps.specs.Call.{append, insert, insert-all, remove, remove-all, entry, occupied-append, occupied-insert, occupied-remove-entry, vacant-insert, pop-front, pop-back, retain, pack-to, clear, get, get-all, entry-len, contains-key, keys, keys-len, values-len, iter, taken}
 
 -- a slice is shorter than what is to be written to it

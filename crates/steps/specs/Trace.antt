@@ -1,7 +1,7 @@
 -- A list of calls on a map, each call on the map that the one before gave back; and what is claimed of the list as a whole (demand 3).
 use mathlib.Core.Path.{_≡_}
 use mathlib.Core.Logic.{_↔_}
-use mathlib.Core.Bool.{Bool, true, false}
+use mathlib.Core.Bool.{true, false}
 use mathlib.Core.List.{List, [], _∷_}
 use Prim.Native.Nat.{ℕ, _+_, min}
 use lib.ListN.{length}

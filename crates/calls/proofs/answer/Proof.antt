@@ -5,10 +5,6 @@ use lib.Seq.{length-take-le}
 use borrow.Author.Needs.{needs}
 use Rattle.calls.proofs.answer.Statement.{statement}
 use Rattle.calls.proofs.answer.Tie as tie
-use Rattle.calls.proofs.answer.Reads as reads
-use Rattle.calls.proofs.answer.Lts as lts
-use Rattle.calls.proofs.buffer.Reads as buffer-reads
-use Rattle.lines.proofs.answer_line.Reads as answer-line-reads
 
 answer-line-requires : tie.Need-answer-line-requires
 answer-line-requires c κs = search needs

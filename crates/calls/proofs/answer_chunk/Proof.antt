@@ -8,9 +8,6 @@ use lib.ListN.{length, drop, length-take, length-drop}
 use Rattle.multimap.specs.WellLinked.{WellLinked}
 use Rattle.calls.proofs.answer_chunk.Statement.{statement}
 use Rattle.calls.proofs.answer_chunk.Tie as tie
-use Rattle.calls.proofs.answer_chunk.Reads as reads
-use Rattle.calls.proofs.answer_chunk.Lts as lts
-use Rattle.calls.proofs.take.Reads as take-reads
 
 abbrev Inv-loop : tie.InvT-loop
 Inv-loop chunk line₀ held out₀ map₀ used₀ kept₀ at₀ line out map used kept at =

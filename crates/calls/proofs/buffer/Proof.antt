@@ -4,10 +4,6 @@ use lib.Seq.{length-take-le}
 use borrow.Author.Needs.{needs}
 use Rattle.calls.proofs.buffer.Statement.{statement}
 use Rattle.calls.proofs.buffer.Tie as tie
-use Rattle.calls.proofs.buffer.Reads as reads
-use Rattle.calls.proofs.buffer.Lts as lts
-use Rattle.calls.proofs.copy.Reads as copy-reads
-use Rattle.io.proofs.write_all.Reads as write-all-reads
 
 sub-if1 : tie.Need-sub-if1
 sub-if1 c = search needs

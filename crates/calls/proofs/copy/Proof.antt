@@ -5,8 +5,6 @@ use native.Mathlib.Omega.{arith}
 use lib.ListN.{length, length-set}
 use Rattle.calls.proofs.copy.Statement.{statement}
 use Rattle.calls.proofs.copy.Tie as tie
-use Rattle.calls.proofs.copy.Reads as reads
-use Rattle.calls.proofs.copy.Lts as lts
 
 abbrev Inv-loop : tie.InvT-loop
 Inv-loop out₀ at bytes i₀ out i = (i ≤ length bytes) × (length out ≡ length out₀)

@@ -4,11 +4,6 @@ use lib.Seq.{length-take-le}
 use borrow.Author.Needs.{needs}
 use Rattle.calls.proofs.finish.Statement.{statement}
 use Rattle.calls.proofs.finish.Tie as tie
-use Rattle.calls.proofs.finish.Reads as reads
-use Rattle.calls.proofs.finish.Lts as lts
-use Rattle.calls.proofs.answer.Reads as answer-reads
-use Rattle.io.proofs.large_buffer.Reads as large-buffer-reads
-use Rattle.io.proofs.write_all.Reads as write-all-reads
 
 large-buffer-requires : tie.Need-large-buffer-requires
 large-buffer-requires c κs = search needs

@@ -7,11 +7,6 @@ use lib.Seq.{length-take-le}
 use Rattle.multimap.specs.WellLinked.{WellLinked}
 use Rattle.calls.proofs.main.Statement.{statement}
 use Rattle.calls.proofs.main.Tie as tie
-use Rattle.calls.proofs.main.Reads as reads
-use Rattle.calls.proofs.main.Lts as lts
-use Rattle.calls.proofs.finish.Reads as finish-reads
-use Rattle.calls.proofs.read_once.Reads as read-once-reads
-use Rattle.multimap.proofs.new.Reads as new-reads
 
 abbrev Inv-loop : tie.InvT-loop
 Inv-loop map₀ line₀ held₀ more₀ turns₀ map line held more turns = WellLinked map × (length line ≡ 1101) × (held ≤ 1101)

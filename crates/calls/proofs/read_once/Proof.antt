@@ -4,14 +4,6 @@ use lib.Seq.{length-take-le}
 use borrow.Author.Needs.{needs}
 use Rattle.calls.proofs.read_once.Statement.{statement}
 use Rattle.calls.proofs.read_once.Tie as tie
-use Rattle.calls.proofs.read_once.Reads as reads
-use Rattle.calls.proofs.read_once.Lts as lts
-use Rattle.calls.proofs.answer_chunk.Reads as answer-chunk-reads
-use Rattle.io.proofs.count.Reads as count-reads
-use Rattle.io.proofs.large_buffer.Reads as large-buffer-reads
-use Rattle.io.proofs.write_all.Reads as write-all-reads
-use Rattle.libc.proofs.read.Reads as read-reads
-use Rattle.os.proofs.fail.Reads as fail-reads
 
 large-buffer-requires : tie.Need-large-buffer-requires
 large-buffer-requires c κs = search needs

@@ -6,10 +6,6 @@ use Rattle.parsing.proofs.Splits.{used-some}
 use borrow.Author.Needs.{needs}
 use Rattle.calls.proofs.take.Statement.{statement}
 use Rattle.calls.proofs.take.Tie as tie
-use Rattle.calls.proofs.take.Reads as reads
-use Rattle.calls.proofs.take.Lts as lts
-use Rattle.calls.proofs.answer.Reads as answer-reads
-use Rattle.parsing.proofs.take_line.Reads as take-line-reads
 
 take-line-requires : tie.Need-take-line-requires
 take-line-requires c κs = search needs

@@ -6,10 +6,6 @@ use Rattle.lines.proofs.Calls.{ended-bytes, ended-count, ended-room, en
 use borrow.Author.Needs.{needs}
 use Rattle.lines.proofs.answer_line.Statement.{statement}
 use Rattle.lines.proofs.answer_line.Tie as tie
-use Rattle.lines.proofs.answer_line.Reads as reads
-use Rattle.lines.proofs.answer_line.Lts as lts
-use Rattle.lines.proofs.calling.ask.Reads as ask-reads
-use Rattle.parsing.proofs.parse.Reads as parse-reads
 
 parse-requires : tie.Need-parse-requires
 parse-requires c κs = search needs

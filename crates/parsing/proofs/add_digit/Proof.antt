@@ -6,8 +6,6 @@ use Rattle.parsing.proofs.Numbers.{low, high, more, large}
 use borrow.Author.Needs.{needs}
 use Rattle.parsing.proofs.add_digit.Statement.{statement}
 use Rattle.parsing.proofs.add_digit.Tie as tie
-use Rattle.parsing.proofs.add_digit.Reads as reads
-use Rattle.parsing.proofs.add_digit.Lts as lts
 
 returns : tie.Need-returns
 returns c = (λ bs. low (c .before .args .value) (c .before .args .b) bs (c .if1 .taken), tt)

@@ -4,8 +4,6 @@ use Rattle.parsing.specs.Line.{alone}
 use Rattle.parsing.proofs.Forms.{alone-bad}
 use Rattle.parsing.proofs.alone.Statement.{statement}
 use Rattle.parsing.proofs.alone.Tie as tie
-use Rattle.parsing.proofs.alone.Reads as reads
-use Rattle.parsing.proofs.alone.Lts as lts
 
 returns : tie.Need-returns
 returns c = sym (ap alone (c .match .keys1))

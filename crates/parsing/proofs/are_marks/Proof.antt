@@ -8,8 +8,6 @@ use Rattle.parsing.specs.Line.{all, isMark}
 use Rattle.parsing.proofs.Numbers.{marks-next, no-mark, mark-0, mark-1}
 use Rattle.parsing.proofs.are_marks.Statement.{statement}
 use Rattle.parsing.proofs.are_marks.Tie as tie
-use Rattle.parsing.proofs.are_marks.Reads as reads
-use Rattle.parsing.proofs.are_marks.Lts as lts
 
 abbrev Inv-loop : tie.InvT-loop
 Inv-loop s i₀ i = (i ≤ length s) × (all isMark s ≡ all isMark (drop i s))

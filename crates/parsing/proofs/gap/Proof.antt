@@ -7,8 +7,6 @@ use Rattle.parsing.specs.Split.{gap as gapOf}
 use Rattle.parsing.proofs.Gaps.{gap-here, gap-past, gap-end}
 use Rattle.parsing.proofs.gap.Statement.{statement}
 use Rattle.parsing.proofs.gap.Tie as tie
-use Rattle.parsing.proofs.gap.Reads as reads
-use Rattle.parsing.proofs.gap.Lts as lts
 
 abbrev Inv-loop : tie.InvT-loop
 Inv-loop s b i₀ i = (i ≤ length s) × (gapOf b s ≡ i + gapOf b (drop i s))

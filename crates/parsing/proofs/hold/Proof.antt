@@ -5,9 +5,6 @@ use lib.ListN.{length, length-set}
 use Rattle.parsing.proofs.Splits.{Holding, hold-start, hold-turn, hold-all, hold-full}
 use Rattle.parsing.proofs.hold.Statement.{statement}
 use Rattle.parsing.proofs.hold.Tie as tie
-use Rattle.parsing.proofs.hold.Reads as reads
-use Rattle.parsing.proofs.hold.Lts as lts
-use Rattle.parsing.proofs.least.Reads as least-reads
 
 abbrev Inv-loop : tie.InvT-loop
 Inv-loop bytes line₀ held at₀ i₀ line at i = Holding bytes line₀ held line at i × (i ≤ length bytes)

@@ -9,10 +9,6 @@ use Rattle.parsing.proofs.Forms.{line-long, line-empty, line-alone, lin
 use borrow.Author.Needs.{needs}
 use Rattle.parsing.proofs.parse.Statement.{statement}
 use Rattle.parsing.proofs.parse.Tie as tie
-use Rattle.parsing.proofs.parse.Reads as reads
-use Rattle.parsing.proofs.parse.Lts as lts
-use Rattle.parsing.proofs.alone.Reads as alone-reads
-use Rattle.parsing.proofs.with_fields.Reads as with-fields-reads
 
 returns : tie.Need-returns
 returns c = line-long (c .before .before .args .line .now) (omega arith)

@@ -10,9 +10,6 @@ use Rattle.parsing.specs.declared.Number.{Number}
 use Rattle.parsing.proofs.Numbers.{number-none, number-some, followed-next, whole}
 use Rattle.parsing.proofs.read_number.Statement.{statement}
 use Rattle.parsing.proofs.read_number.Tie as tie
-use Rattle.parsing.proofs.read_number.Reads as reads
-use Rattle.parsing.proofs.read_number.Lts as lts
-use Rattle.parsing.proofs.add_digit.Reads as add-digit-reads
 
 abbrev Inv-loop : tie.InvT-loop
 Inv-loop s value₀ i₀ value i = (i ≤ length s) × (value < 2 ^ 64) × (numberFrom 0 s ≡ numberFrom value (drop i s))

@@ -6,10 +6,6 @@ use Rattle.parsing.proofs.Splits.{took-end, took-all}
 use borrow.Author.Needs.{needs}
 use Rattle.parsing.proofs.take_line.Statement.{statement}
 use Rattle.parsing.proofs.take_line.Tie as tie
-use Rattle.parsing.proofs.take_line.Reads as reads
-use Rattle.parsing.proofs.take_line.Lts as lts
-use Rattle.parsing.proofs.gap.Reads as gap-reads
-use Rattle.parsing.proofs.hold.Reads as hold-reads
 
 gap-requires : tie.Need-gap-requires
 gap-requires c κs = search needs

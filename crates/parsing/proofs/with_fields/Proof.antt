@@ -1,6 +1,6 @@
 -- `parsing::with_fields` meets its contract, by the laws of proofs/Forms.antt. Assumes nothing.
 use Prim.Native.Nat.{ℕ, _+_, _-_, _<_}
-use mathlib.Core.Path.{_≡_, sym, ap, _∙_}
+use mathlib.Core.Path.{sym, ap, _∙_}
 use mathlib.Core.List.{List, _∷_}
 use native.Mathlib.Omega.{arith}
 use lib.ListN.{length, take, drop, length-drop}
@@ -10,11 +10,6 @@ use Rattle.parsing.proofs.Forms.{less, gap-le, fields-one, fields-two}
 use borrow.Author.Needs.{needs}
 use Rattle.parsing.proofs.with_fields.Statement.{statement}
 use Rattle.parsing.proofs.with_fields.Tie as tie
-use Rattle.parsing.proofs.with_fields.Reads as reads
-use Rattle.parsing.proofs.with_fields.Lts as lts
-use Rattle.parsing.proofs.gap.Reads as gap-reads
-use Rattle.parsing.proofs.with_one.Reads as with-one-reads
-use Rattle.parsing.proofs.with_two.Reads as with-two-reads
 
 -- the first space stands within the rest
 within : (c : tie.Else1) → c .before .gap .result < length (c .before .before .before .args .rest .now)

@@ -5,10 +5,6 @@ use Rattle.parsing.proofs.Forms.{one-no, one-removes, one-other, one-em
 use borrow.Author.Needs.{needs}
 use Rattle.parsing.proofs.with_one.Statement.{statement}
 use Rattle.parsing.proofs.with_one.Tie as tie
-use Rattle.parsing.proofs.with_one.Reads as reads
-use Rattle.parsing.proofs.with_one.Lts as lts
-use Rattle.parsing.proofs.are_marks.Reads as are-marks-reads
-use Rattle.parsing.proofs.read_number.Reads as read-number-reads
 
 read-number-requires : tie.Need-read-number-requires
 read-number-requires c κs = search needs

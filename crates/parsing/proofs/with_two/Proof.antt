@@ -5,9 +5,6 @@ use Rattle.parsing.proofs.Forms.{two-first, two-second, two-adds, two-i
 use borrow.Author.Needs.{needs}
 use Rattle.parsing.proofs.with_two.Statement.{statement}
 use Rattle.parsing.proofs.with_two.Tie as tie
-use Rattle.parsing.proofs.with_two.Reads as reads
-use Rattle.parsing.proofs.with_two.Lts as lts
-use Rattle.parsing.proofs.read_number.Reads as read-number-reads
 
 read-number-requires : tie.Need-read-number-requires
 read-number-requires c κs = search needs

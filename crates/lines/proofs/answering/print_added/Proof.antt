@@ -1,20 +1,15 @@
 -- `lines::answering::print_added` meets its contract: each arm prints its case. Assumes nothing.
-use mathlib.Core.Path.{_≡_, sym, ap, _∙_}
-use mathlib.Core.Bool.{Bool, true, false, cond}
-use mathlib.Core.List.{List, [], _∷_}
-use Prim.Native.Nat.{ℕ}
+use mathlib.Core.Path.{sym, ap, _∙_}
+use mathlib.Core.Bool.{Bool, cond}
+use mathlib.Core.List.{[]}
 use Rattle.steps.specs.Call.{lend}
-use Rattle.lines.specs.Answer.{textOf, kept, old, keyed, listed, presentText, newText}
+use Rattle.lines.specs.Answer.{textOf, kept, presentText, newText}
 use Rattle.lines.proofs.Sayings.{said-as}
 use Rattle.changing.specs.AddingAnswer.{addedOf}
 use Rattle.changing.specs.declared.adding.Added.{Added}
 use borrow.Author.Needs.{needs}
 use Rattle.lines.proofs.answering.print_added.Statement.{statement}
 use Rattle.lines.proofs.answering.print_added.Tie as tie
-use Rattle.lines.proofs.answering.print_added.Reads as reads
-use Rattle.lines.proofs.answering.print_added.Lts as lts
-use Rattle.lines.proofs.answering.print_refused.Reads as print-refused-reads
-use Rattle.lines.proofs.answering.print_word.Reads as print-word-reads
 
 enum-known-answer : tie.Need-enum-known-answer
 enum-known-answer c = search needs

@@ -1,20 +1,14 @@
 -- `lines::answering::print_kept` meets its contract: each arm prints its case. Assumes nothing.
-use mathlib.Core.Path.{_≡_, sym, ap, _∙_}
-use mathlib.Core.Bool.{Bool, true, false, cond}
-use mathlib.Core.List.{List, [], _∷_}
-use Prim.Native.Nat.{ℕ}
+use mathlib.Core.Path.{sym, ap}
+use mathlib.Core.List.{[]}
 use Rattle.steps.specs.Call.{lend}
-use Rattle.lines.specs.Answer.{textOf, kept, old, keyed, listed, presentText, newText}
+use Rattle.lines.specs.Answer.{textOf, kept}
 use Rattle.lines.proofs.Sayings.{said-as}
 use Rattle.changing.specs.RemovingAnswer.{keptOf}
 use Rattle.changing.specs.declared.removing.Kept.{Kept}
 use borrow.Author.Needs.{needs}
 use Rattle.lines.proofs.answering.print_kept.Statement.{statement}
 use Rattle.lines.proofs.answering.print_kept.Tie as tie
-use Rattle.lines.proofs.answering.print_kept.Reads as reads
-use Rattle.lines.proofs.answering.print_kept.Lts as lts
-use Rattle.lines.proofs.answering.print_number.Reads as print-number-reads
-use Rattle.lines.proofs.answering.print_refused.Reads as print-refused-reads
 
 enum-known-answer : tie.Need-enum-known-answer
 enum-known-answer c = search needs

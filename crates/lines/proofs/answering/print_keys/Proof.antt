@@ -8,11 +8,6 @@ use Rattle.lines.proofs.Sayings.{values-said}
 use borrow.Author.Needs.{needs}
 use Rattle.lines.proofs.answering.print_keys.Statement.{statement}
 use Rattle.lines.proofs.answering.print_keys.Tie as tie
-use Rattle.lines.proofs.answering.print_keys.Reads as reads
-use Rattle.lines.proofs.answering.print_keys.Lts as lts
-use Rattle.lines.proofs.answering.least.Reads as least-reads
-use Rattle.lines.proofs.answering.print_word.Reads as print-word-reads
-use Rattle.lines.proofs.printing.put_values.Reads as put-values-reads
 
 slice-aggregate-print-word : tie.Need-slice-aggregate-print-word
 slice-aggregate-print-word c = search needs

@@ -7,11 +7,6 @@ use Rattle.lines.proofs.Sayings.{pairs-said}
 use borrow.Author.Needs.{needs}
 use Rattle.lines.proofs.answering.print_list.Statement.{statement}
 use Rattle.lines.proofs.answering.print_list.Tie as tie
-use Rattle.lines.proofs.answering.print_list.Reads as reads
-use Rattle.lines.proofs.answering.print_list.Lts as lts
-use Rattle.lines.proofs.answering.least.Reads as least-reads
-use Rattle.lines.proofs.answering.print_word.Reads as print-word-reads
-use Rattle.lines.proofs.printing.put_pairs.Reads as put-pairs-reads
 
 slice-aggregate-print-word : tie.Need-slice-aggregate-print-word
 slice-aggregate-print-word c = search needs

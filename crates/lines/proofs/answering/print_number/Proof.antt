@@ -5,10 +5,6 @@ use Rattle.lines.proofs.Runs.{after-long}
 use borrow.Author.Needs.{needs}
 use Rattle.lines.proofs.answering.print_number.Statement.{statement}
 use Rattle.lines.proofs.answering.print_number.Tie as tie
-use Rattle.lines.proofs.answering.print_number.Reads as reads
-use Rattle.lines.proofs.answering.print_number.Lts as lts
-use Rattle.lines.proofs.printing.put.Reads as put-reads
-use Rattle.lines.proofs.printing.put_after.Reads as put-after-reads
 
 put-requires : tie.Need-put-requires
 put-requires c κs = search needs

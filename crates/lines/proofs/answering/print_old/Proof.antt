@@ -8,11 +8,6 @@ use Rattle.lines.proofs.Sayings.{values-said}
 use borrow.Author.Needs.{needs}
 use Rattle.lines.proofs.answering.print_old.Statement.{statement}
 use Rattle.lines.proofs.answering.print_old.Tie as tie
-use Rattle.lines.proofs.answering.print_old.Reads as reads
-use Rattle.lines.proofs.answering.print_old.Lts as lts
-use Rattle.lines.proofs.answering.least.Reads as least-reads
-use Rattle.lines.proofs.answering.print_number.Reads as print-number-reads
-use Rattle.lines.proofs.printing.put_values.Reads as put-values-reads
 
 slice-aggregate-print-number : tie.Need-slice-aggregate-print-number
 slice-aggregate-print-number c = search needs

@@ -9,10 +9,6 @@ use Rattle.lines.proofs.Sayings.{pair-said}
 use borrow.Author.Needs.{needs}
 use Rattle.lines.proofs.answering.print_pair.Statement.{statement}
 use Rattle.lines.proofs.answering.print_pair.Tie as tie
-use Rattle.lines.proofs.answering.print_pair.Reads as reads
-use Rattle.lines.proofs.answering.print_pair.Lts as lts
-use Rattle.lines.proofs.printing.put.Reads as put-reads
-use Rattle.lines.proofs.printing.put_after.Reads as put-after-reads
 
 slice-aggregate-put : tie.Need-slice-aggregate-put
 slice-aggregate-put c = search needs

@@ -1,20 +1,14 @@
 -- `lines::answering::print_popped` meets its contract: each arm prints its case. Assumes nothing.
-use mathlib.Core.Path.{_≡_, sym, ap, _∙_}
-use mathlib.Core.Bool.{Bool, true, false, cond}
-use mathlib.Core.List.{List, [], _∷_}
-use Prim.Native.Nat.{ℕ}
+use mathlib.Core.Path.{sym, ap}
+use mathlib.Core.List.{[]}
 use Rattle.steps.specs.Call.{lend}
-use Rattle.lines.specs.Answer.{textOf, kept, old, keyed, listed, presentText, newText}
+use Rattle.lines.specs.Answer.{textOf, kept}
 use Rattle.lines.proofs.Sayings.{said-as}
 use Rattle.changing.specs.RemovingAnswer.{poppedOf}
 use Rattle.changing.specs.declared.removing.Popped.{Popped}
 use borrow.Author.Needs.{needs}
 use Rattle.lines.proofs.answering.print_popped.Statement.{statement}
 use Rattle.lines.proofs.answering.print_popped.Tie as tie
-use Rattle.lines.proofs.answering.print_popped.Reads as reads
-use Rattle.lines.proofs.answering.print_popped.Lts as lts
-use Rattle.lines.proofs.answering.print_pair.Reads as print-pair-reads
-use Rattle.lines.proofs.answering.print_word.Reads as print-word-reads
 
 enum-told : tie.Need-enum-told
 enum-told c = search needs

@@ -5,10 +5,6 @@ use Rattle.lines.proofs.Calls.{replied}
 use borrow.Author.Needs.{needs}
 use Rattle.lines.proofs.calling.adds.Statement.{statement}
 use Rattle.lines.proofs.calling.adds.Tie as tie
-use Rattle.lines.proofs.calling.adds.Reads as reads
-use Rattle.lines.proofs.calling.adds.Lts as lts
-use Rattle.changing.proofs.adding.append.Reads as append-reads
-use Rattle.lines.proofs.answering.print_added.Reads as print-added-reads
 
 append-requires : tie.Need-append-requires
 append-requires c κs = search needs

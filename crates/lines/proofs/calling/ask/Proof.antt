@@ -9,18 +9,6 @@ use Rattle.lines.proofs.Calls.{replied-as, asked, keeps-short, marks-pa
 use borrow.Author.Needs.{needs}
 use Rattle.lines.proofs.calling.ask.Statement.{statement}
 use Rattle.lines.proofs.calling.ask.Tie as tie
-use Rattle.lines.proofs.calling.ask.Reads as reads
-use Rattle.lines.proofs.calling.ask.Lts as lts
-use Rattle.lines.proofs.answering.least.Reads as least-reads
-use Rattle.lines.proofs.calling.adds.Reads as adds-reads
-use Rattle.lines.proofs.calling.back.Reads as back-reads
-use Rattle.lines.proofs.calling.bad.Reads as bad-reads
-use Rattle.lines.proofs.calling.front.Reads as front-reads
-use Rattle.lines.proofs.calling.inserts.Reads as inserts-reads
-use Rattle.lines.proofs.calling.keeps.Reads as keeps-reads
-use Rattle.lines.proofs.calling.lists.Reads as lists-reads
-use Rattle.lines.proofs.calling.members.Reads as members-reads
-use Rattle.lines.proofs.calling.removes.Reads as removes-reads
 
 enum-known-request : tie.Need-enum-known-request
 enum-known-request c = search needs

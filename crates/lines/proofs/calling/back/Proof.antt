@@ -5,10 +5,6 @@ use Rattle.lines.proofs.Calls.{replied}
 use borrow.Author.Needs.{needs}
 use Rattle.lines.proofs.calling.back.Statement.{statement}
 use Rattle.lines.proofs.calling.back.Tie as tie
-use Rattle.lines.proofs.calling.back.Reads as reads
-use Rattle.lines.proofs.calling.back.Lts as lts
-use Rattle.changing.proofs.removing.pop_back.Reads as pop-back-reads
-use Rattle.lines.proofs.answering.print_popped.Reads as print-popped-reads
 
 pop-back-requires : tie.Need-pop-back-requires
 pop-back-requires c κs = search needs

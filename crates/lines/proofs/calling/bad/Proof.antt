@@ -4,9 +4,6 @@ use Rattle.lines.specs.Answer.{answerOf}
 use borrow.Author.Needs.{needs}
 use Rattle.lines.proofs.calling.bad.Statement.{statement}
 use Rattle.lines.proofs.calling.bad.Tie as tie
-use Rattle.lines.proofs.calling.bad.Reads as reads
-use Rattle.lines.proofs.calling.bad.Lts as lts
-use Rattle.lines.proofs.answering.print_word.Reads as print-word-reads
 
 slice-aggregate-print-word : tie.Need-slice-aggregate-print-word
 slice-aggregate-print-word c = search needs

@@ -8,9 +8,6 @@ use Rattle.lines.proofs.Puts.{ToCome, come-all}
 use Rattle.lines.proofs.Calls.{mark-turn, mark-end}
 use Rattle.lines.proofs.calling.copy_marks.Statement.{statement}
 use Rattle.lines.proofs.calling.copy_marks.Tie as tie
-use Rattle.lines.proofs.calling.copy_marks.Reads as reads
-use Rattle.lines.proofs.calling.copy_marks.Lts as lts
-use Rattle.lines.proofs.calling.mark.Reads as mark-reads
 
 abbrev Inv-loop : tie.InvT-loop
 Inv-loop marks₀ bytes i₀ marks i = (i ≤ length bytes) × ToCome marks₀ 0 (map markOf bytes) marks i (map markOf (drop i bytes))

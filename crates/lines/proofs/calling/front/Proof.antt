@@ -5,10 +5,6 @@ use Rattle.lines.proofs.Calls.{replied}
 use borrow.Author.Needs.{needs}
 use Rattle.lines.proofs.calling.front.Statement.{statement}
 use Rattle.lines.proofs.calling.front.Tie as tie
-use Rattle.lines.proofs.calling.front.Reads as reads
-use Rattle.lines.proofs.calling.front.Lts as lts
-use Rattle.changing.proofs.removing.pop_front.Reads as pop-front-reads
-use Rattle.lines.proofs.answering.print_popped.Reads as print-popped-reads
 
 pop-front-requires : tie.Need-pop-front-requires
 pop-front-requires c κs = search needs

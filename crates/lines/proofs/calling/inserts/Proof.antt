@@ -5,10 +5,6 @@ use Rattle.lines.proofs.Calls.{replied}
 use borrow.Author.Needs.{needs}
 use Rattle.lines.proofs.calling.inserts.Statement.{statement}
 use Rattle.lines.proofs.calling.inserts.Tie as tie
-use Rattle.lines.proofs.calling.inserts.Reads as reads
-use Rattle.lines.proofs.calling.inserts.Lts as lts
-use Rattle.changing.proofs.inserting.insert_all.Reads as insert-all-reads
-use Rattle.lines.proofs.answering.print_inserted.Reads as print-inserted-reads
 
 slice-aggregate-insert-all : tie.Need-slice-aggregate-insert-all
 slice-aggregate-insert-all c = search needs

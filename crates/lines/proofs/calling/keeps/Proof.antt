@@ -11,11 +11,6 @@ use Rattle.lines.proofs.Calls.{replied, does-marks, put-front}
 use borrow.Author.Needs.{needs}
 use Rattle.lines.proofs.calling.keeps.Statement.{statement}
 use Rattle.lines.proofs.calling.keeps.Tie as tie
-use Rattle.lines.proofs.calling.keeps.Reads as reads
-use Rattle.lines.proofs.calling.keeps.Lts as lts
-use Rattle.changing.proofs.removing.retain.Reads as retain-reads
-use Rattle.lines.proofs.answering.print_kept.Reads as print-kept-reads
-use Rattle.lines.proofs.calling.copy_marks.Reads as copy-marks-reads
 
 slice-aggregate-copy-marks : tie.Need-slice-aggregate-copy-marks
 slice-aggregate-copy-marks c = search needs

@@ -5,10 +5,6 @@ use Rattle.lines.proofs.Calls.{replied}
 use borrow.Author.Needs.{needs}
 use Rattle.lines.proofs.calling.lists.Statement.{statement}
 use Rattle.lines.proofs.calling.lists.Tie as tie
-use Rattle.lines.proofs.calling.lists.Reads as reads
-use Rattle.lines.proofs.calling.lists.Lts as lts
-use Rattle.lines.proofs.answering.print_pairs.Reads as print-pairs-reads
-use Rattle.reading.proofs.iter.Reads as iter-reads
 
 slice-aggregate-iter : tie.Need-slice-aggregate-iter
 slice-aggregate-iter c = search needs

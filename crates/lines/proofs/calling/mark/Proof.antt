@@ -2,8 +2,6 @@
 use borrow.Author.Tests.{eq-eqb, ne-eqb}
 use Rattle.lines.proofs.calling.mark.Statement.{statement}
 use Rattle.lines.proofs.calling.mark.Tie as tie
-use Rattle.lines.proofs.calling.mark.Reads as reads
-use Rattle.lines.proofs.calling.mark.Lts as lts
 
 returns : tie.Need-returns
 returns c = rw (eq-eqb (c .before .args .b) 49 (c .if1 .taken))

@@ -5,10 +5,6 @@ use Rattle.lines.proofs.Calls.{replied}
 use borrow.Author.Needs.{needs}
 use Rattle.lines.proofs.calling.members.Statement.{statement}
 use Rattle.lines.proofs.calling.members.Tie as tie
-use Rattle.lines.proofs.calling.members.Reads as reads
-use Rattle.lines.proofs.calling.members.Lts as lts
-use Rattle.lines.proofs.answering.print_members.Reads as print-members-reads
-use Rattle.reading.proofs.keys.Reads as keys-reads
 
 slice-aggregate-keys : tie.Need-slice-aggregate-keys
 slice-aggregate-keys c = search needs

@@ -5,10 +5,6 @@ use Rattle.lines.proofs.Calls.{replied}
 use borrow.Author.Needs.{needs}
 use Rattle.lines.proofs.calling.removes.Statement.{statement}
 use Rattle.lines.proofs.calling.removes.Tie as tie
-use Rattle.lines.proofs.calling.removes.Reads as reads
-use Rattle.lines.proofs.calling.removes.Lts as lts
-use Rattle.changing.proofs.removing.remove_all.Reads as remove-all-reads
-use Rattle.lines.proofs.answering.print_removed.Reads as print-removed-reads
 
 slice-aggregate-remove-all : tie.Need-slice-aggregate-remove-all
 slice-aggregate-remove-all c = search needs

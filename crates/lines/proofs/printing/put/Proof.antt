@@ -1,15 +1,13 @@
 -- `lines::printing::put` meets its contract. The loop's invariant: what is still to come, stored, gives what was asked. Assumes nothing.
 use Prim.Native.Nat.{_+_, _-_, _≤_}
-use mathlib.Core.Path.{_≡_, refl, sym, ap, _∙_}
+use mathlib.Core.Path.{_≡_, refl, _∙_}
 use native.Mathlib.Omega.{arith}
 use native.Mathlib.Nat.{add-zero}
-use lib.ListN.{length, drop, length-set, drop-of-length-le}
+use lib.ListN.{length, drop, length-set}
 use lib.Seq.{sets}
 use Rattle.lines.proofs.Puts.{turn, at-end}
 use Rattle.lines.proofs.printing.put.Statement.{statement}
 use Rattle.lines.proofs.printing.put.Tie as tie
-use Rattle.lines.proofs.printing.put.Reads as reads
-use Rattle.lines.proofs.printing.put.Lts as lts
 
 abbrev Inv-loop : tie.InvT-loop
 Inv-loop out₀ at bytes i₀ out i =

@@ -6,9 +6,6 @@ use Rattle.lines.proofs.Puts.{put-cons}
 use borrow.Author.Needs.{needs}
 use Rattle.lines.proofs.printing.put_after.Statement.{statement}
 use Rattle.lines.proofs.printing.put_after.Tie as tie
-use Rattle.lines.proofs.printing.put_after.Reads as reads
-use Rattle.lines.proofs.printing.put_after.Lts as lts
-use Rattle.lines.proofs.printing.put_number.Reads as put-number-reads
 
 -- src/printing.rt:36:5
 slice-write-out : tie.Need-slice-write-out

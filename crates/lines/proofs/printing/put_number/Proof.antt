@@ -6,10 +6,6 @@ use Rattle.lines.proofs.Decimals.{digits-decimal, few}
 use mathlib.Core.Path.{_∙_}
 use Rattle.lines.proofs.printing.put_number.Statement.{statement}
 use Rattle.lines.proofs.printing.put_number.Tie as tie
-use Rattle.lines.proofs.printing.put_number.Reads as reads
-use Rattle.lines.proofs.printing.put_number.Lts as lts
-use Rattle.io.proofs.decimal.Reads as decimal-reads
-use Rattle.lines.proofs.printing.put.Reads as put-reads
 
 decimal-requires : tie.Need-decimal-requires
 decimal-requires c κs = search needs

@@ -7,9 +7,6 @@ use Rattle.lines.proofs.Puts.{ToCome, come-all, put-long}
 use Rattle.lines.proofs.Runs.{after-long, pairs-turn, pairs-end}
 use Rattle.lines.proofs.printing.put_pairs.Statement.{statement}
 use Rattle.lines.proofs.printing.put_pairs.Tie as tie
-use Rattle.lines.proofs.printing.put_pairs.Reads as reads
-use Rattle.lines.proofs.printing.put_pairs.Lts as lts
-use Rattle.lines.proofs.printing.put_after.Reads as put-after-reads
 
 abbrev Inv-loop : tie.InvT-loop
 Inv-loop out₀ at members rounds place₀ i₀ out place i =

@@ -1,6 +1,5 @@
 -- `lines::printing::put_values` meets its contract. The loop's invariant: what is still to come, and that it has room. Assumes nothing.
 use Prim.Native.Nat.{_+_, _*_, _-_, _≤_}
-use mathlib.Core.Path.{_∙_}
 use native.Mathlib.Omega.{arith}
 use lib.ListN.{length, getD, drop}
 use Rattle.lines.specs.Text as Text
@@ -8,9 +7,6 @@ use Rattle.lines.proofs.Puts.{ToCome, come-all}
 use Rattle.lines.proofs.Runs.{after-long, values-turn, values-end}
 use Rattle.lines.proofs.printing.put_values.Statement.{statement}
 use Rattle.lines.proofs.printing.put_values.Tie as tie
-use Rattle.lines.proofs.printing.put_values.Reads as reads
-use Rattle.lines.proofs.printing.put_values.Lts as lts
-use Rattle.lines.proofs.printing.put_after.Reads as put-after-reads
 
 abbrev Inv-loop : tie.InvT-loop
 Inv-loop out₀ at values place₀ i₀ out place i =
