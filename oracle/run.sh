@@ -1,12 +1,13 @@
 #!/bin/sh
 # Runs the comparison with the Rust crate, all of it from nothing: fetches by apt-get what is missing, builds the crate,
 # the port's static library (where crates.txt has the crate exports), the driver and, where its argument says so, the calls
-# program. Nothing is written to the repository outside target/.
+# program. Nothing is written to the repository outside target/, save by the argument sample.
 #
-#   oracle/run.sh [quick|full] [SEED]    the driver's own tests, the confirmed differences, the mixes of EntryValues, damaged
-#                                        records and images; then lists of calls (quick without an argument)
+#   oracle/run.sh [quick|full] [SEED]    the driver's own tests, the confirmed differences, the mixes of EntryValues, the
+#                                        stored sample, damaged records and images; then lists of calls (quick without an argument)
 #   oracle/run.sh calls [SEED]           the calls program beside the same lines over the crate
 #   oracle/run.sh bench                  the time of each call; then of the calls program
+#   oracle/run.sh sample                 write the sample of the crate's answers anew: crates/crate_answers/stdin and stdout
 #
 # ORACLE_SOURCE names list_ordered_multimap.rs where it does not stand beside the work tree (oracle/build.sh).
 set -eu
@@ -46,6 +47,7 @@ quick | full)
     target/oracle/driver selftest
     target/oracle/driver faults
     target/oracle/driver mixes
+    target/oracle/driver sample
     if [ -n "$port" ]; then
         target/oracle/driver damage
         target/oracle/driver images
@@ -62,6 +64,9 @@ bench)
     target/oracle/driver bench
     echo
     target/oracle/driver calls
+    ;;
+sample)
+    target/oracle/driver sample write
     ;;
 *)
     target/oracle/driver "$@"

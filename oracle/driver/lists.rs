@@ -1,7 +1,9 @@
 // The lists of calls that are run: all short ones, all arrangements with all marks, the edges, and random ones.
 
 use crate::compare::{Difference, Run, Session};
+use crate::crate_map::strikes_neighbours;
 use crate::model::{Call, Model, Op, MAX_MEMBERS, MAX_ROUNDS};
+use crate::port::untouched;
 
 // A small generator of numbers (splitmix64).
 pub struct Random(pub u64);
@@ -312,6 +314,33 @@ fn random_list(session: &mut Session, random: &mut Random, pool: &[u64], rounds:
 fn one_more(session: &mut Session, random: &mut Random, run: &mut Run, pool: &[u64], lean: Lean) -> Outcome {
     let call = random_call(random, &run.model, pool, lean);
     session.call(run, call)
+}
+
+// A short list of calls that the crate takes as they are: none that document 01 refuses, no retain on which the crate
+// stops, and not `taken`, which it does not have. At the end P and K are read.
+pub fn list_for_the_crate(random: &mut Random) -> Vec<Call> {
+    let (count, kind) = (1 + random.below(6), random.below(3));
+    let pool = pools(count, random)[kind].clone();
+    let mut model = Model::default();
+    let mut list = Vec::new();
+    while list.len() < 30 {
+        let lean = if list.len() < 12 { Lean::Fill } else { random.pick(&[Lean::Hold, Lean::Hold, Lean::Empty]) };
+        let call = random_call(random, &model, &pool, lean);
+        if crate_takes(&model, &call) {
+            model.step(&call, &mut untouched(call.out), &mut untouched(call.out2));
+            list.push(call);
+        }
+    }
+    list.push(Call::iter(model.pairs.len(), model.pairs.len()));
+    list.push(Call::lending(Op::Keys, 0, 0, model.members.len()));
+    list
+}
+
+fn crate_takes(model: &Model, call: &Call) -> bool {
+    let members: Vec<u64> = model.pairs.iter().map(|pair| pair.0).collect();
+    call.op != Op::Taken
+        && model.refusal(call).is_none()
+        && !(call.op == Op::Retain && strikes_neighbours(&members, &call.marks))
 }
 
 // Lists over few members with few rounds.

@@ -20,6 +20,7 @@ mod lists;
 mod mixes;
 mod model;
 mod port;
+mod sample;
 mod selftest;
 mod shrink;
 
@@ -29,8 +30,8 @@ use model::OPS;
 use std::process::exit;
 use std::time::Instant;
 
-const USAGE: &str = "usage: driver quick [SEED] | full [SEED] | selftest | faults | mixes | damage [SEED]
-       | images [SEED] | calls [SEED] | lines [passes] | bench";
+const USAGE: &str = "usage: driver quick [SEED] | full [SEED] | selftest | faults | mixes | sample [write]
+       | damage [SEED] | images [SEED] | calls [SEED] | lines [passes] | bench";
 
 fn main() {
     let words: Vec<String> = std::env::args().skip(1).collect();
@@ -42,6 +43,7 @@ fn main() {
         ("selftest", _) => selftest::run(),
         ("faults", _) => faults::run(),
         ("mixes", _) => mixes::run(),
+        ("sample", _) => sample::run(words.get(1).map_or(false, |word| word == "write")),
         #[cfg(port)]
         ("damage", Some(seed)) => damage::run(seed),
         #[cfg(port)]

@@ -196,7 +196,7 @@ fn least(a: usize, b: usize) -> usize
 }
 
 // Holds the bytes after those that are held, as far as the line is long.
-fn hold(bytes: &[u8], line: &mut [u8], held: usize) -> usize
+pub fn hold(bytes: &[u8], line: &mut [u8], held: usize) -> usize
     ensures { λ r. ⌜ Held (now (bytes .entry)) (now (line .entry)) held (now (line .exit)) r ⌝ }
 {
     let mut at = least(held, line.len());

@@ -124,6 +124,7 @@ fn after(p: Place, h: Head) -> Place
     let n = h.n;
     let n2 = h.n2;
     let n3 = h.n3;
+    let more = true;
     Place {
         call: i + 6,
         out: o + n as usize,
@@ -131,7 +132,7 @@ fn after(p: Place, h: Head) -> Place
         mark: k + n3 as usize,
         answer: a + 4,
         ran: ran + 1,
-        more: true,
+        more,
     }
 }
 
