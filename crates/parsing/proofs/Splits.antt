@@ -7,7 +7,7 @@ use native.Mathlib.Omega.{arith}
 use native.Mathlib.Numerals.{add-one}
 use native.Mathlib.Nat.{suc-min-suc}
 use lib.ListN.{length, getD, take, drop, set, length-append, length-take, length-set, drop-of-length-le}
-use lib.Seq.{drop-cons, take-all, take-suc-set, take-append-seam, append-snoc, take-append-add, take-append-le, drop-append-add, drop-append-le}
+use lib.Seq.{drop-cons, take-all, take-suc-set, take-append-seam, append-snoc, take-append-add, take-append-le, drop-append-add, drop-append-le, drop-drop, drop-set-lt}
 use Rattle.parsing.specs.Split.{Held, Took, gap, linesOf, lastOf, front, joined, Reads, none, last, used, ends, goes-on}
 use Rattle.parsing.specs.Line.{onto, lineOf}
 use Rattle.parsing.proofs.Forms.{line-long}
@@ -18,6 +18,7 @@ use Rattle.parsing.specs.declared.Taken.{Taken}
 -- what `hold` has done and has to do: `at` bytes are held, and the bytes from i on are to come
 pub record Holding (bytes was : List ℕ) (held : ℕ) (line : List ℕ) (at i : ℕ) : Type 0 where
   pub come : take (length was) (take at line ++ drop i bytes) ≡ take (length was) (take held was ++ bytes)
+  pub past : drop at line ≡ drop at was
   pub within : at ≤ length line
   pub long : length line ≡ length was
 
@@ -28,7 +29,7 @@ take-min (suc n) (x ∷ xs) = rw (suc-min-suc n (length xs)) (ap (λ (l : List �
 
 pub hold-start : (bytes was : List ℕ) (held at : ℕ) → at ≡ min held (length was) → Holding bytes was held was at 0
 hold-start bytes was held at e =
-    record { come = rw e (ap (λ (l : List ℕ). take (length was) (l ++ bytes)) (take-min held was)); within = omega arith; long = refl }
+    record { come = rw e (ap (λ (l : List ℕ). take (length was) (l ++ bytes)) (take-min held was)); past = refl; within = omega arith; long = refl }
 
 pub hold-turn : (bytes was : List ℕ) (held : ℕ) (line : List ℕ) (at i : ℕ) → at < length line → i < length bytes → Holding bytes was held line at i
     → Holding bytes was held (set line at (getD bytes i 0)) (at + 1) (i + 1)
@@ -39,6 +40,7 @@ hold-turn bytes was held line at i g h t =
           (rw (add-one at, add-one i, take-suc-set line at (getD bytes i 0) g) (append-snoc (take at line) (getD bytes i 0) (drop (suc i) bytes))
           ∙ ap (λ (l : List ℕ). take at line ++ l) (sym (drop-cons bytes i 0 h)))
           ∙ t .come;
+      past = drop-set-lt (at + 1) line at (getD bytes i 0) (omega arith) ∙ sym (drop-drop 1 at line) ∙ ap (drop 1) (t .past) ∙ drop-drop 1 at was;
       within = rw length-set (omega arith);
       long = length-set line at (getD bytes i 0) ∙ t .long;
     }
@@ -52,6 +54,7 @@ module _ (bytes was : List ℕ) (held : ℕ) (line : List ℕ) (at i : ℕ) (t :
             sym (take-all (length was) (take at line) (omega (arith, length-take at line, t .long)))
             ∙ sym (ap (λ (l : List ℕ). take (length was) l) (ap (λ (l : List ℕ). take at line ++ l) (drop-of-length-le bytes {i = i} h) ∙ append-nil (take at line)))
             ∙ t .come;
+        past = t .past;
         within = t .within;
         long = t .long;
       }
@@ -63,6 +66,7 @@ module _ (bytes was : List ℕ) (held : ℕ) (line : List ℕ) (at i : ℕ) (t :
         front =
             take-all at line h ∙ sym (take-append-seam line (drop i bytes)) ∙ ap (λ (n : ℕ). take n (line ++ drop i bytes)) (t .long)
             ∙ ap (λ (l : List ℕ). take (length was) (l ++ drop i bytes)) (sym (take-all at line h)) ∙ t .come;
+        past = t .past;
         within = t .within;
         long = t .long;
       }

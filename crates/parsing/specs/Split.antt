@@ -23,9 +23,11 @@ unfoldable pub gap : ℕ → List ℕ → ℕ
 gap b [] = 0
 gap b (x ∷ xs) = cond (eqb x b) 0 (suc (gap b xs))
 
--- after the first `held` bytes of `was` the bytes are held, in `line`, as far as it is long. r counts the bytes held then
+-- after the first `held` bytes of `was` the bytes are held, in `line`, as far as it is long. r counts the bytes held then, and those past
+-- them are kept
 pub record Held (bytes : List ℕ) (was : List ℕ) (held : ℕ) (line : List ℕ) (r : ℕ) : Type 0 where
   pub front : take r line ≡ take (length was) (take held was ++ bytes)
+  pub past : drop r line ≡ drop r was
   pub within : r ≤ length line
   pub long : length line ≡ length was
 

@@ -1,11 +1,11 @@
 -- Laws of what is held in a slice piece by piece, as far as it is long. Assumes nothing.
-use Prim.Native.Nat.{ℕ, zero, suc, _+_, _≤_, _<_}
-use mathlib.Core.Path.{_≡_, refl, sym, ap, _∙_}
+use Prim.Native.Nat.{ℕ, zero, suc, _+_, _-_, _≤_, _<_}
+use mathlib.Core.Path.{_≡_, refl, sym, ap, subst, _∙_}
 use mathlib.Core.List.{List, [], _∷_, _++_, append-assoc, append-nil}
 use native.Mathlib.Omega.{arith}
 use native.Mathlib.Numerals.{add-one}
-use lib.ListN.{length, take, set, length-take, length-set, length-append}
-use lib.Seq.{take-all, take-suc-set, take-append-seam, take-nil}
+use lib.ListN.{length, take, drop, set, length-take, length-set, length-append}
+use lib.Seq.{take-all, take-suc-set, take-append-seam, take-nil, drop-drop, drop-set-lt}
 use Rattle.parsing.specs.Split.{Held}
 
 -- a list that is cut before and after it goes on
@@ -19,6 +19,7 @@ pub held-full : (x a : List ℕ) (at : ℕ) → at ≡ length a → Held x a at 
 held-full x a at e =
     record {
       front = take-all at a (omega arith) ∙ sym (take-append-seam a x) ∙ ap (λ (l : List ℕ). take (length a) (l ++ x)) (sym (take-all at a (omega arith)));
+      past = refl;
       within = omega arith;
       long = refl;
     }
@@ -27,6 +28,7 @@ pub held-none : (a : List ℕ) (at : ℕ) → at ≤ length a → Held [] a at a
 held-none a at h =
     record {
       front = sym (take-all (length a) (take at a) (omega (arith, length-take at a))) ∙ ap (take (length a)) (sym (append-nil (take at a)));
+      past = refl;
       within = h;
       long = refl;
     }
@@ -37,6 +39,7 @@ held-one a at v h =
       front =
           rw (add-one at) (take-suc-set a at v h)
           ∙ sym (take-all (length a) (take at a ++ (v ∷ [])) (omega (arith, length-take at a, length-append (take at a) (v ∷ []))));
+      past = drop-set-lt (at + 1) a at v (omega arith);
       within = rw length-set (omega arith);
       long = length-set a at v;
     }
@@ -44,14 +47,26 @@ held-one a at v h =
 pub held-as : {x y a b : List ℕ} {at r : ℕ} → Held x a at b r → x ≡ y → Held y a at b r
 held-as {x} {y} {a} {b} {at} {r} h e = rw e at h
 
+-- no fewer are held then
+held-more : {x a b : List ℕ} {at r : ℕ} → at ≤ length a → Held x a at b r → at ≤ r
+held-more {x} {a} {b} {at} {r} i h =
+    omega (arith, h .within, length-take r b, ap length (h .front), length-take (length a) (take at a ++ x), length-append (take at a) x, length-take at a)
+
+-- what is kept past a place is kept past a later one
+past-more : (a b : List ℕ) (n k : ℕ) → n ≤ k → drop n b ≡ drop n a → drop k b ≡ drop k a
+past-more a b n k h e =
+    let f : n + (k - n) ≡ k = omega arith in
+    subst (λ (j : ℕ). drop j b ≡ drop j a) f (sym (drop-drop (k - n) n b) ∙ ap (drop (k - n)) e ∙ drop-drop (k - n) n a)
+
 -- what is still to come of that which is held piece by piece
 pub record Coming (was : List ℕ) (at : ℕ) (all : List ℕ) (now : List ℕ) (place : ℕ) (rest : List ℕ) : Type 0 where
   pub come : take (length was) (take place now ++ rest) ≡ take (length was) (take at was ++ all)
+  pub past : drop place now ≡ drop place was
   pub within : place ≤ length now
   pub long : length now ≡ length was
 
 pub come-all : (was : List ℕ) (at : ℕ) (all : List ℕ) → at ≤ length was → Coming was at all was at all
-come-all was at all h = record { come = refl; within = h; long = refl }
+come-all was at all h = record { come = refl; past = refl; within = h; long = refl }
 
 pub come-less : {was all now next x rest : List ℕ} {at place after : ℕ} → Coming was at all now place (x ++ rest) → Held x now place next after
     → Coming was at all next after rest
@@ -63,6 +78,7 @@ come-less {was} {all} {now} {next} {x} {rest} {at} {place} {after} t h =
           ∙ cut-on (length was) (take place now ++ x) rest
           ∙ ap (take (length was)) (append-assoc (take place now) x rest)
           ∙ t .come;
+      past = h .past ∙ past-more was now place after (held-more (t .within) h) (t .past);
       within = h .within;
       long = h .long ∙ t .long;
     }
@@ -74,6 +90,7 @@ come-none {was} {all} {now} {at} {place} t =
           sym (take-all (length was) (take place now) (omega (arith, length-take place now, t .long, t .within)))
           ∙ ap (take (length was)) (sym (append-nil (take place now)))
           ∙ t .come;
+      past = t .past;
       within = t .within;
       long = t .long;
     }
@@ -88,6 +105,7 @@ held-join {x} {y} {a} {b} {c} {at} {r} {s} p q =
           ∙ ap (λ (l : List ℕ). take (length a) (l ++ y)) (p .front)
           ∙ cut-on (length a) (take at a ++ x) y
           ∙ ap (take (length a)) (append-assoc (take at a) x y);
+      past = q .past ∙ past-more a b r s (held-more (p .within) q) (p .past);
       within = q .within;
       long = q .long ∙ p .long;
     }
