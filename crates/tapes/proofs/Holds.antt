@@ -5,7 +5,7 @@ use mathlib.Core.List.{List, [], _∷_, _++_, append-assoc, append-nil}
 use native.Mathlib.Omega.{arith}
 use native.Mathlib.Numerals.{add-one}
 use lib.ListN.{length, take, drop, set, length-take, length-set, length-append}
-use lib.Seq.{take-all, take-suc-set, take-append-seam, take-nil, drop-drop, drop-set-lt}
+use lib.Seq.{take-all, take-suc-set, take-append-seam, drop-drop, drop-set-lt}
 use Rattle.parsing.specs.Split.{Held}
 
 -- a list that is cut before and after it goes on

@@ -1,7 +1,7 @@
 -- Laws of a list's parts, and of what is printed of it. Assumes nothing.
 use Prim.Native.Nat.{ℕ, zero, suc, _+_, _-_, _≤_, _<_}
 use mathlib.Core.Path.{_≡_, refl, sym, ap, _∙_}
-use mathlib.Core.List.{List, [], _++_}
+use mathlib.Core.List.{List, []}
 use native.Mathlib.Omega.{arith}
 use borrow.Author.Tests.{lt-ltb, le-ltb, leb-true, leb-false}
 use mathlib.Core.Bool.{Bool, true, false}
@@ -12,7 +12,7 @@ use Rattle.multimap.specs.declared.ListOrderedMultimap.{ListOrderedMultimap}
 use Rattle.replay.specs.Played.{Played}
 use Rattle.parsing.specs.Split.{gap, Held}
 use Rattle.tapes.specs.Parts.{partOf, restOf}
-use Rattle.tapes.specs.Printed.{leftText, runText, partsText, listsAfter, listText, firstLists, listsText, Answers}
+use Rattle.tapes.specs.Printed.{leftText, runText, partsText, listsAfter, firstLists, listsText, Answers}
 use Rattle.tapes.specs.declared.Answered.{Answered}
 use Rattle.tapes.proofs.Holds.{held-none, held-join, Coming, come-all, come-less, come-none}
 use Rattle.tapes.proofs.Numbers.{gap-within}

@@ -4,10 +4,6 @@ use lib.Seq.{length-take-le}
 use borrow.Author.Needs.{needs}
 use Rattle.crate_answers.proofs.print.Statement.{statement}
 use Rattle.crate_answers.proofs.print.Tie as tie
-use Rattle.crate_answers.proofs.print.Reads as reads
-use Rattle.crate_answers.proofs.print.Lts as lts
-use Rattle.io.proofs.write_all.Reads as write-all-reads
-use Rattle.tapes.proofs.answer_lists.Reads as answer-lists-reads
 
 slice-aggregate-answer-lists : tie.Need-slice-aggregate-answer-lists
 slice-aggregate-answer-lists c = search needs

@@ -8,12 +8,6 @@ use Rattle.tapes.proofs.Lists.{lists-less, no-list, one-list}
 use borrow.Author.Needs.{needs}
 use Rattle.tapes.proofs.answer_list.Statement.{statement}
 use Rattle.tapes.proofs.answer_list.Tie as tie
-use Rattle.tapes.proofs.answer_list.Reads as reads
-use Rattle.tapes.proofs.answer_list.Lts as lts
-use Rattle.parsing.proofs.hold.Reads as hold-reads
-use Rattle.tapes.proofs.parts.part.Reads as part-reads
-use Rattle.tapes.proofs.parts.rest.Reads as rest-reads
-use Rattle.tapes.proofs.print_parts.Reads as print-parts-reads
 
 -- what is left after the list
 left-is : (c : tie.After-rest6) → c .rest6 .result .now ≡ listsAfter (c .before .before .before .before .before .before .before .before .before .args .text .now)

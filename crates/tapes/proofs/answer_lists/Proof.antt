@@ -8,9 +8,6 @@ use Rattle.tapes.specs.declared.Answered.{Answered}
 use Rattle.tapes.proofs.Lists.{Lists, lists-all, part-on, list-some, lists-on, lists-done}
 use Rattle.tapes.proofs.answer_lists.Statement.{statement}
 use Rattle.tapes.proofs.answer_lists.Tie as tie
-use Rattle.tapes.proofs.answer_lists.Reads as reads
-use Rattle.tapes.proofs.answer_lists.Lts as lts
-use Rattle.tapes.proofs.answer_list.Reads as answer-list-reads
 
 abbrev Inv-loop : tie.InvT-loop
 Inv-loop text out₀ at₀ place₀ out at place = Lists text out₀ out at place

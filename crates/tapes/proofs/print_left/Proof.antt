@@ -4,11 +4,6 @@ use Rattle.tapes.proofs.Holds.{held-join}
 use borrow.Author.Needs.{needs}
 use Rattle.tapes.proofs.print_left.Statement.{statement}
 use Rattle.tapes.proofs.print_left.Tie as tie
-use Rattle.tapes.proofs.print_left.Reads as reads
-use Rattle.tapes.proofs.print_left.Lts as lts
-use Rattle.parsing.proofs.hold.Reads as hold-reads
-use Rattle.tapes.proofs.printing.put_after.Reads as put-after-reads
-use Rattle.tapes.proofs.printing.put_rows.Reads as put-rows-reads
 
 slice-aggregate-hold : tie.Need-slice-aggregate-hold
 slice-aggregate-hold c = search needs

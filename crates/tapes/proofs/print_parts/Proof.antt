@@ -6,13 +6,6 @@ use Rattle.tapes.proofs.Lists.{front-of, run-as}
 use borrow.Author.Needs.{needs}
 use Rattle.tapes.proofs.print_parts.Statement.{statement}
 use Rattle.tapes.proofs.print_parts.Tie as tie
-use Rattle.tapes.proofs.print_parts.Reads as reads
-use Rattle.tapes.proofs.print_parts.Lts as lts
-use Rattle.tapes.proofs.parts.part.Reads as part-reads
-use Rattle.tapes.proofs.parts.read_marks.Reads as read-marks-reads
-use Rattle.tapes.proofs.parts.read_numbers.Reads as read-numbers-reads
-use Rattle.tapes.proofs.parts.rest.Reads as rest-reads
-use Rattle.tapes.proofs.print_run.Reads as print-run-reads
 
 rest-requires : tie.Need-rest-requires
 rest-requires c κs = search needs

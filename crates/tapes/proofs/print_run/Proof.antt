@@ -4,10 +4,6 @@ use Rattle.tapes.proofs.Lists.{played-left}
 use borrow.Author.Needs.{needs}
 use Rattle.tapes.proofs.print_run.Statement.{statement}
 use Rattle.tapes.proofs.print_run.Tie as tie
-use Rattle.tapes.proofs.print_run.Reads as reads
-use Rattle.tapes.proofs.print_run.Lts as lts
-use Rattle.replay.proofs.replay.Reads as replay-reads
-use Rattle.tapes.proofs.print_left.Reads as print-left-reads
 
 replay-requires : tie.Need-replay-requires
 replay-requires c κs = search needs

@@ -4,9 +4,6 @@ use native.Mathlib.Omega.{arith}
 use borrow.Author.Needs.{needs}
 use Rattle.tapes.proofs.parts.grow.Statement.{statement}
 use Rattle.tapes.proofs.parts.grow.Tie as tie
-use Rattle.tapes.proofs.parts.grow.Reads as reads
-use Rattle.tapes.proofs.parts.grow.Lts as lts
-use Rattle.tapes.proofs.parts.digit_of.Reads as digit-of-reads
 
 returns : tie.Need-returns
 returns c = rw (not-true (c .before .args .digit) (c .if1 .taken))

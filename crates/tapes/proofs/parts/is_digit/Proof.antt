@@ -2,8 +2,6 @@
 use borrow.Author.Tests.{le-leb, lt-leb}
 use Rattle.tapes.proofs.parts.is_digit.Statement.{statement}
 use Rattle.tapes.proofs.parts.is_digit.Tie as tie
-use Rattle.tapes.proofs.parts.is_digit.Reads as reads
-use Rattle.tapes.proofs.parts.is_digit.Lts as lts
 
 returns : tie.Need-returns
 returns c = rw (lt-leb 48 (c .before .args .b) (c .if1 .taken))

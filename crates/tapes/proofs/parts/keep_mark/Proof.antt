@@ -5,9 +5,6 @@ use Rattle.tapes.proofs.Holds.{held-full, held-none, held-one}
 use borrow.Author.Needs.{needs}
 use Rattle.tapes.proofs.parts.keep_mark.Statement.{statement}
 use Rattle.tapes.proofs.parts.keep_mark.Tie as tie
-use Rattle.tapes.proofs.parts.keep_mark.Reads as reads
-use Rattle.tapes.proofs.parts.keep_mark.Lts as lts
-use Rattle.tapes.proofs.parts.digit_of.Reads as digit-of-reads
 
 returns : tie.Need-returns
 returns c = let a = c .before .before .args in rw (not-true (a .is) (c .if1 .taken)) (held-none (a .marks .now) (a .count) (c .before .before .pre))

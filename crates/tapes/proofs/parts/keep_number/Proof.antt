@@ -5,8 +5,6 @@ use Rattle.tapes.proofs.Holds.{held-full, held-none, held-one}
 use borrow.Author.Needs.{needs}
 use Rattle.tapes.proofs.parts.keep_number.Statement.{statement}
 use Rattle.tapes.proofs.parts.keep_number.Tie as tie
-use Rattle.tapes.proofs.parts.keep_number.Reads as reads
-use Rattle.tapes.proofs.parts.keep_number.Lts as lts
 
 returns : tie.Need-returns
 returns c = let a = c .before .args in rw (not-true (a .is) (c .if1 .taken)) (held-none (a .numbers .now) (a .count) (c .before .pre))

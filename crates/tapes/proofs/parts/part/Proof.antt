@@ -8,9 +8,6 @@ use Rattle.tapes.proofs.Numbers.{gap-within}
 use borrow.Author.Needs.{needs}
 use Rattle.tapes.proofs.parts.part.Statement.{statement}
 use Rattle.tapes.proofs.parts.part.Tie as tie
-use Rattle.tapes.proofs.parts.part.Reads as reads
-use Rattle.tapes.proofs.parts.part.Lts as lts
-use Rattle.parsing.proofs.gap.Reads as gap-reads
 
 gap-requires : tie.Need-gap-requires
 gap-requires c κs = search needs

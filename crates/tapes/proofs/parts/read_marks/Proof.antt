@@ -7,10 +7,6 @@ use Rattle.tapes.proofs.Holds.{Coming, come-all}
 use Rattle.tapes.proofs.Numbers.{marks-on, marks-done}
 use Rattle.tapes.proofs.parts.read_marks.Statement.{statement}
 use Rattle.tapes.proofs.parts.read_marks.Tie as tie
-use Rattle.tapes.proofs.parts.read_marks.Reads as reads
-use Rattle.tapes.proofs.parts.read_marks.Lts as lts
-use Rattle.tapes.proofs.parts.is_digit.Reads as is-digit-reads
-use Rattle.tapes.proofs.parts.keep_mark.Reads as keep-mark-reads
 
 abbrev Inv-loop : tie.InvT-loop
 Inv-loop s marks₀ count₀ i₀ marks count i = (i ≤ length s) × Coming marks₀ 0 (marksOf s) marks count (marksOf (drop i s))

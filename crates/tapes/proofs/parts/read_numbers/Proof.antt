@@ -8,12 +8,6 @@ use Rattle.tapes.proofs.Holds.{Coming, come-all}
 use Rattle.tapes.proofs.Numbers.{numbers-on, numbers-done}
 use Rattle.tapes.proofs.parts.read_numbers.Statement.{statement}
 use Rattle.tapes.proofs.parts.read_numbers.Tie as tie
-use Rattle.tapes.proofs.parts.read_numbers.Reads as reads
-use Rattle.tapes.proofs.parts.read_numbers.Lts as lts
-use Rattle.tapes.proofs.parts.ends.Reads as ends-reads
-use Rattle.tapes.proofs.parts.grow.Reads as grow-reads
-use Rattle.tapes.proofs.parts.is_digit.Reads as is-digit-reads
-use Rattle.tapes.proofs.parts.keep_number.Reads as keep-number-reads
 
 abbrev Inv-loop : tie.InvT-loop
 Inv-loop s numbers₀ count₀ begun₀ n₀ i₀ numbers count begun n i = (i ≤ length s) × Coming numbers₀ 0 (numbersOf s) numbers count (numbersFrom begun n (drop i s))

@@ -2,16 +2,13 @@
 use Prim.Native.Nat.{ℕ, _+_, _-_}
 use mathlib.Core.Path.{sym, ap, _∙_}
 use native.Mathlib.Omega.{arith}
-use lib.ListN.{length, take, drop, length-drop, drop-of-length-le}
-use lib.Seq.{take-all, take-nil}
+use lib.ListN.{length, drop, length-drop, drop-of-length-le}
+use lib.Seq.{take-all}
 use Rattle.parsing.specs.Split.{gap}
 use Rattle.tapes.proofs.Numbers.{gap-within}
 use borrow.Author.Needs.{needs}
 use Rattle.tapes.proofs.parts.rest.Statement.{statement}
 use Rattle.tapes.proofs.parts.rest.Tie as tie
-use Rattle.tapes.proofs.parts.rest.Reads as reads
-use Rattle.tapes.proofs.parts.rest.Lts as lts
-use Rattle.parsing.proofs.gap.Reads as gap-reads
 
 gap-requires : tie.Need-gap-requires
 gap-requires c κs = search needs

@@ -7,10 +7,6 @@ use Rattle.tapes.proofs.Holds.{held-join, held-as}
 use borrow.Author.Needs.{needs}
 use Rattle.tapes.proofs.printing.put_after.Statement.{statement}
 use Rattle.tapes.proofs.printing.put_after.Tie as tie
-use Rattle.tapes.proofs.printing.put_after.Reads as reads
-use Rattle.tapes.proofs.printing.put_after.Lts as lts
-use Rattle.io.proofs.decimal.Reads as decimal-reads
-use Rattle.parsing.proofs.hold.Reads as hold-reads
 
 decimal-requires : tie.Need-decimal-requires
 decimal-requires c κs = search needs

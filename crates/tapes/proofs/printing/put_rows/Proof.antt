@@ -7,10 +7,6 @@ use Rattle.tapes.proofs.Holds.{Coming, come-all}
 use Rattle.tapes.proofs.Numbers.{rows-on, rows-done}
 use Rattle.tapes.proofs.printing.put_rows.Statement.{statement}
 use Rattle.tapes.proofs.printing.put_rows.Tie as tie
-use Rattle.tapes.proofs.printing.put_rows.Reads as reads
-use Rattle.tapes.proofs.printing.put_rows.Lts as lts
-use Rattle.tapes.proofs.printing.put_after.Reads as put-after-reads
-use Rattle.tapes.proofs.printing.separator.Reads as separator-reads
 
 abbrev Inv-loop : tie.InvT-loop
 Inv-loop out₀ at values width place₀ i₀ out place i = (i ≤ length values) × Coming out₀ at (rows width 0 values) out place (rows width i (drop i values))

@@ -4,8 +4,6 @@ use borrow.Author.Tests.{eq-eqb, ne-eqb}
 use borrow.Author.Needs.{needs}
 use Rattle.tapes.proofs.printing.separator.Statement.{statement}
 use Rattle.tapes.proofs.printing.separator.Tie as tie
-use Rattle.tapes.proofs.printing.separator.Reads as reads
-use Rattle.tapes.proofs.printing.separator.Lts as lts
 
 rem-if1 : tie.Need-rem-if1
 rem-if1 c = search needs
