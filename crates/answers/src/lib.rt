@@ -20,7 +20,7 @@ ghost use Rattle.changing.specs.RemovingAnswer.{poppedOf, keptOf};
 ghost use Rattle.entries.specs.Answers.{appendedOf, firstOf, vacantOf};
 ghost use Rattle.packing.specs.Answer.{repackedOf};
 ghost use Rattle.answers.specs.Answers.{answerOf};
-ghost use Rattle.answers.specs.Coded.{bit as bitOf, coded};
+ghost use Rattle.steps.specs.Coded.{bit as bitOf, coded};
 
 pub enum Answer {
     Refused(u64),

@@ -1,4 +1,4 @@
--- What the exported functions say by numbers, beside the calls, of which `Told` of crate answers speaks.
+-- What the exported functions say by numbers, beside the calls, of which `Told` of crate steps speaks.
 use Prim.Native.Nat.{ℕ}
 use mathlib.Core.Path.{_≡_}
 use mathlib.Core.Logic.{_⊎_}
@@ -7,7 +7,7 @@ use Rattle.steps.specs.Call.{Answer}
 use Rattle.steps.specs.Step.{write}
 use Rattle.multimap.specs.Map.{stateOf}
 use Rattle.multimap.specs.declared.ListOrderedMultimap.{ListOrderedMultimap}
-use Rattle.answers.specs.Coded.{coded}
+use Rattle.steps.specs.Coded.{coded}
 use Rattle.image.specs.Image.{writeOf}
 use Rattle.image.specs.Answers.{Reads}
 

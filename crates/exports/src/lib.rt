@@ -12,7 +12,7 @@ ghost use Rattle.multimap.specs.Map.{stateOf};
 ghost use Rattle.multimap.specs.WellLinked.{WellLinked, linked};
 ghost use Rattle.multimap.specs.declared.ListOrderedMultimap.{ListOrderedMultimap};
 ghost use Rattle.answers.specs.Answers.{answerOf};
-ghost use Rattle.answers.specs.Told.{Told};
+ghost use Rattle.steps.specs.Told.{Told};
 ghost use Rattle.image.specs.Answers.{writtenOf, readingOf};
 ghost use Rattle.replay.specs.Played.{Played};
 ghost use Rattle.exports.specs.Told.{Tells, Writes, Restores};

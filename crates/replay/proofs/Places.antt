@@ -9,7 +9,7 @@ use lib.Seq.{length-take-le}
 use borrow.Rule.Slice.PartMut.{putMid}
 use Rattle.multimap.specs.WellLinked.{WellLinked, linked}
 use Rattle.multimap.specs.declared.ListOrderedMultimap.{ListOrderedMultimap}
-use Rattle.answers.specs.Told.{Told}
+use Rattle.steps.specs.Told.{Told}
 use Rattle.replay.specs.Tape.{callOf}
 use Rattle.replay.specs.Place.{headAt, fitsHead, Ready, stopped, Past, Within, rest, At, Advanced}
 use Rattle.replay.specs.declared.Head.{Head}

@@ -11,9 +11,9 @@ use lib.ListN.{length, take, drop, getD, take-append-drop, length-append, length
 use lib.Seq.{drop-cons, drop-drop, take-at, drop-at, length-take-le}
 use borrow.Rule.Slice.PartMut.{putMid, same-len-mid}
 use Rattle.steps.specs.Trace.{Kind}
-use Rattle.answers.specs.Told.{Told}
+use Rattle.steps.specs.Told.{Told}
 use Rattle.replay.specs.Tape.{callOf, fits, decode, Ran, Reached}
-use Rattle.answers.proofs.Coded.{coded-length}
+use Rattle.steps.proofs.Coded.{coded-length}
 use Rattle.replay.proofs.Tapes.{decode-short, decode-not, Fits, fits-says, ran-ended, ran-call}
 
 -- a part of xs from a on, of k elements, with ys put there

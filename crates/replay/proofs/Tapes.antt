@@ -13,9 +13,9 @@ use Rattle.steps.specs.Call as C
 use Rattle.steps.specs.Call.{Outcome}
 use Rattle.steps.specs.Step.{over, outcomes}
 use Rattle.steps.specs.Trace.{Kind, Trace, stop, call}
-use Rattle.answers.specs.Coded.{coded}
-use Rattle.answers.proofs.Coded.{coded-length}
-use Rattle.answers.specs.Told.{Told}
+use Rattle.steps.specs.Coded.{coded}
+use Rattle.steps.proofs.Coded.{coded-length}
+use Rattle.steps.specs.Told.{Told}
 use Rattle.replay.specs.Tape.{callOf, lends, known, fits, decode, outsOf, outs2Of, answersOf, Ran}
 use Rattle.multimap.specs.Map.{stateOf}
 use Rattle.multimap.specs.WellLinked.{WellLinked, linked}

@@ -12,7 +12,7 @@ use Rattle.steps.specs.Call.{Call, Outcome}
 use Rattle.steps.specs.Call.{append, insert, insert-all, remove, remove-all, entry, occupied-append, occupied-insert, occupied-remove-entry, vacant-insert, pop-front, pop-back, retain, pack-to, clear, get, get-all, entry-len, contains-key, keys, keys-len, values-len, iter, taken}
 use Rattle.steps.specs.Step.{over}
 use Rattle.steps.specs.Trace.{Kind, Trace}
-use Rattle.answers.specs.Coded.{coded}
+use Rattle.steps.specs.Coded.{coded}
 
 -- The calls by number, from 0.
 abbrev pub callOf : ℕ → ℕ → ℕ → List ℕ → List ℕ → List ℕ → Call

@@ -7,3 +7,4 @@ pub mod Sums
 pub mod Taken
 pub mod Obeys
 pub mod Doing
+pub mod Coded

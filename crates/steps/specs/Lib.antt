@@ -6,3 +6,5 @@ pub mod Marked
 pub mod Accounting
 pub mod Proper
 pub mod Trace
+pub mod Coded
+pub mod Told

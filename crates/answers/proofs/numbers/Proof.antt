@@ -1,6 +1,6 @@
 -- `answers::numbers` meets its contract. Assumes nothing.
 use Rattle.answers.specs.Answers.{answerOf}
-use Rattle.answers.proofs.Coded.{coded-words}
+use Rattle.steps.proofs.Coded.{coded-words}
 use borrow.Author.Needs.{needs}
 use Rattle.answers.proofs.numbers.Statement.{statement}
 use Rattle.answers.proofs.numbers.Tie as tie

@@ -1,6 +1,6 @@
 -- `exports::om_read_image` meets its contract. Assumes nothing.
 use mathlib.Core.Path.{ap, _∙_}
-use Rattle.answers.specs.Coded.{coded}
+use Rattle.steps.specs.Coded.{coded}
 use borrow.Author.Needs.{needs}
 use Rattle.exports.proofs.om_read_image.Statement.{statement}
 use Rattle.exports.proofs.om_read_image.Tie as tie

@@ -8,7 +8,7 @@ use lib.ListN.{length, take, drop}
 use borrow.Rule.Slice.PartMut.{putMid}
 use Rattle.multimap.specs.WellLinked.{linked}
 use Rattle.multimap.specs.declared.ListOrderedMultimap.{ListOrderedMultimap}
-use Rattle.answers.specs.Told.{Told}
+use Rattle.steps.specs.Told.{Told}
 use Rattle.replay.specs.Tape.{callOf}
 use Rattle.replay.specs.Place.{Ready, Advanced}
 use Rattle.replay.specs.declared.Head.{Head}

@@ -2,7 +2,7 @@
 use mathlib.Core.Path.{_∙_, ap}
 use lib.ListN.{length}
 use Rattle.answers.specs.Answers.{answerOf}
-use Rattle.answers.proofs.Coded.{coded-length}
+use Rattle.steps.proofs.Coded.{coded-length}
 use Rattle.replay.proofs.Tapes.{stored-four}
 use borrow.Author.Needs.{needs}
 use Rattle.replay.proofs.code.Statement.{statement}

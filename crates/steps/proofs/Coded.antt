@@ -5,8 +5,8 @@ use mathlib.Core.List.{List, [], _∷_}
 use Prim.Native.Nat.{ℕ}
 use lib.Dec.{eqb}
 use lib.ListN.{length, getD}
 use Rattle.steps.specs.Call.{Answer, refused, none, done, round, count, present, popped, occupied, vacant}
-use Rattle.answers.specs.Coded.{words, coded}
+use Rattle.steps.specs.Coded.{words, coded}
 
 pub coded-length : (a : Answer) → length (coded a) ≡ 4
 coded-length (refused n) = refl

@@ -2,9 +2,9 @@
 use mathlib.Core.Path.{_≡_}
 use mathlib.Core.List.{List}
 use Prim.Native.Nat.{ℕ}
 use Rattle.steps.specs.Call.{Call, Outcome}
 use Rattle.steps.specs.Trace.{Kind, Does}
-use Rattle.answers.specs.Coded.{coded}
+use Rattle.steps.specs.Coded.{coded}
 
 module _ {Map : Type 0} (M : Kind Map) where
   -- The map, the two lent slices, empty where the call has none, and the answer's numbers.
