@@ -1,36 +1,42 @@
 -- One round is struck, at an end for the pops. Assumes nothing.
-use Prim.Native.Nat.{ℕ, suc, _-_, _<_}
+use Prim.Native.Nat.{ℕ, suc, _-_, _≤_, _<_}
 use mathlib.Core.Path.{_≡_, refl, sym, ap, _∙_, subst, fun-ext}
 use mathlib.Core.Logic.{_≢_, ⊎-elim}
 use mathlib.Core.Bool.{Bool, true, false, cond, not, _&&_, _||_, Bool·not-not}
-use mathlib.Core.List.{List, [], _∷_, _++_, map, append-nil, dropLast}
-use mathlib.Core.Option.{some}
+use mathlib.Core.List.{List, [], _∷_, _++_, map, append-nil, dropLast, head?, tail}
+use mathlib.Core.Option.{Option, some, none as nothing}
 use native.Mathlib.Omega.{arith}
 use borrow.Author.Tests.{eq-eqb, ne-eqb, eqb-true}
 use lib.Dec.{eqb}
 use lib.ListN.{length}
+use lib.Seq.{getD-set-same}
 use Rattle.steps.specs.Lists.{filter, last?}
 use Rattle.steps.specs.State.{State, Pair, has, of, leave, remove-pair, keep as keeping}
-use Rattle.steps.specs.Call.{Call, popped, none, pop-front, pop-back}
-use Rattle.steps.specs.Step.{step, checks, act, say}
+use Rattle.steps.specs.Call.{Call, Outcome, popped, none, pop-front, pop-back}
+use Rattle.steps.specs.Step.{step, checks, act, say, pop}
 use Rattle.steps.specs.Trace.{Does}
+use Rattle.steps.specs.Coded.{coded}
+use Rattle.steps.specs.Told.{Told}
 use Rattle.steps.proofs.Doing.{packs, does-stay, does-change}
 use Rattle.steps.proofs.Filter.{filter-fuse, any-append}
 use Rattle.links.specs.Path.{count, keep, without, strip, walk}
 use Rattle.links.specs.Places.{order}
 use Rattle.links.specs.Links.{recordIn, recordOf}
 use Rattle.links.proofs.Paths.{same-or-not, keep-all, keep-inside, count-same, count-append, Split, split-at, path-end}
-use Rattle.links.proofs.Lists.{in-array, order-without, length-order}
+use Rattle.links.proofs.Lists.{order-without, length-order}
 use Rattle.links.proofs.Bare.{bare-order}
+use Rattle.index.specs.Table.{Removed}
 use Rattle.multimap.specs.Map.{at, keyAt, valueAt, pairAt, pairs, members, roundsOf, membersOf, linksOf, stateOf}
 use Rattle.multimap.specs.WellLinked.{WellLinked, linked}
 use Rattle.multimap.specs.declared.ListOrderedMultimap.{ListOrderedMultimap}
-use Rattle.multimap.proofs.Stores.{map-append}
+use Rattle.multimap.proofs.Stores.{map-append, Sized}
 use Rattle.changing.specs.Strike.{Stretch, Struck, RoundPlace}
-use Rattle.changing.specs.Sweep.{idle, Sweepable, Swept}
-use Rattle.changing.specs.RemovingAnswer.{poppedOf, popOf, rest, PoppedAt}
+use Rattle.changing.specs.Sweep.{idle, Sound, Sweepable, Swept}
+use Rattle.changing.specs.RemovingAnswer.{poppedOf, poppedFrom, popOf, rest, PoppedAt}
 use Rattle.changing.specs.declared.removing.Popped.{Popped}
 use Rattle.changing.specs.declared.removing.Popped.the-variants as A
+use Rattle.changing.proofs.Strikes as S
+use Rattle.changing.proofs.Sweeps as W
 use Rattle.changing.proofs.Leaving.{has-size, member-still, length-now, struck-sound, left-linked, left-state, all-have, leaves-one}
 
 -- ---- the state
@@ -77,18 +83,12 @@ module _ (m : ListOrderedMultimap) (x : ℕ) (h : RoundPlace m x) where
   abbrev key : ℕ → ℕ
   key = keyAt (m .«key_index»)
 
-  pub place-fits : x < 1024
-  place-fits = in-array (roundsOf m) (g .chained .rounds) x (h .inside)
-
   -- the place of its member
   abbrev place : ℕ
   place = keyAt (m .«key_index») x
 
   place-in : 0 < count place (order (membersOf m))
   place-in = g .chained .keys x (h .inside)
-
-  pub key-fits : keyAt (m .«key_index») x < 256
-  key-fits = in-array (membersOf m) (g .chained .members) place place-in
 
   pub round-stretch : Stretch false m x 1
   round-stretch =
@@ -157,6 +157,63 @@ module _ (m : ListOrderedMultimap) (x : ℕ) (h : RoundPlace m x) where
         let all : (j : ℕ) → 0 < count j (order (membersOf o)) → at (o .length) j ≢ 0 =
         λ j i. ⊎-elim (λ (u : j ≡ place). λ z. e (ap (at (o .length)) (sym u) ∙ z)) (others j i) (same-or-not j place) in
         taken-out [] o stays (sym (keep-all (λ j. not (eqb (at (o .length) j) 0)) (order (membersOf o)) (λ j i. ap not (ne-eqb (at (o .length) j) 0 (all j i))))) false (ne-eqb (at (o .length) place) 0 e)
+
+-- ---- the stores
+
+module _ (m : ListOrderedMultimap) (z : Sized m) (x : ℕ) (h : RoundPlace m x) where
+  abbrev k : ℕ
+  k = keyAt (m .«key_index») x
+
+  -- the round is struck
+  abbrev pub taken : ListOrderedMultimap
+  taken = S.r m z (h .linked .chained) x (h .inside)
+
+  pub round-bounds : S.Bounds m x
+  round-bounds = S.bounds m z (h .linked .chained) x (h .inside)
+
+  pub round-struck : Struck m (x ∷ []) taken
+  round-struck =
+      let t = round-stretch m x h in
+      S.turned-all false m x 1 t [] 1 _ taken (S.turned-struck false m x 1 t [] 0 x m (S.turned-none false m x 1 t [] z) (omega arith) _ refl refl) (omega arith)
+
+  size-now : at (taken .length) k ≡ at (m .length) k - 1
+  size-now = getD-set-same (m .length) k (at (m .length) k - 1) 0 (rw (z .lengths) (round-bounds .key))
+
+  -- its member has more
+  pub stored-one : 1 < at (m .length) (keyAt (m .«key_index») x) → PoppedAt m x (A.Pair (at (m .keys) (keyAt (m .«key_index») x)) (at (m .values) x) false) taken
+  stored-one e = popped-one m x h taken round-struck (λ u. omega (arith, size-now, u, e))
+
+  pub now-sized : Sized taken
+  now-sized = S.sized-now m z (h .linked .chained) x (h .inside)
+
+  pub now-sound : Sound taken
+  now-sound = struck-sound m (h .linked) (x ∷ []) taken round-struck
+
+  pub k-in : 0 < count k (order (membersOf m))
+  k-in = place-in m x h
+
+  pub member-bounds : W.Bounds m (keyAt (m .«key_index») x)
+  member-bounds =
+      let b = W.bounds taken now-sized now-sound k k-in in
+      record { place = b .place; next = b .next; prev = b .prev; some = b .some }
+
+  -- and the member, with its last round
+  module _ (e : at (m .length) (keyAt (m .«key_index») x) ≤ 1) (closed : List ℕ) (shut : Removed (m .index) (m .keys) (at (m .keys) (keyAt (m .«key_index») x)) closed) where
+    none-left : at (taken .length) k ≡ 0
+    none-left = omega (arith, size-now, e)
+
+    abbrev pub taken-both : ListOrderedMultimap
+    taken-both = W.r taken now-sized now-sound k k-in closed
+
+    both-swept : Swept taken (idle taken k 1) taken-both
+    both-swept =
+        let w = sweepable m x h taken round-struck in
+        let t = W.turned-none taken k 1 w now-sized in
+        W.turned-all taken k 1 w 1 _ taken-both
+        (W.turned-left taken k 1 w 0 k taken t (omega arith) none-left closed (W.shut-gap taken taken (t .kept) now-sound k k-in closed shut)) (omega arith)
+
+    pub stored-both : PoppedAt m x (A.Pair (at (m .keys) (keyAt (m .«key_index») x)) (at (m .values) x) true) taken-both
+    stored-both = popped-last m x h taken round-struck none-left taken-both both-swept
 
 -- ---- the steps
 
@@ -259,3 +316,26 @@ module _ (m : ListOrderedMultimap) (g : WellLinked m) where
         → (a : Popped) (r : ListOrderedMultimap) → PoppedAt m x a r → Does linked (popOf b) m (say (poppedOf a)) r
     pop-popped true i a r p = front-popped m g e a r (subst (λ (y : ℕ). PoppedAt m y a r) i p)
     pop-popped false i a r p = back-popped m g e a r (subst (λ (y : ℕ). PoppedAt m y a r) i p)
+
+-- ---- the answer's numbers
+
+-- the outcome of a pop is read back from them
+read-one : (p : Option Pair) (ps : List Pair) (s : State) → say (poppedFrom (coded (pop p ps s .0 .answer))) ≡ pop p ps s .0
+read-one nothing ps s = refl
+read-one (some p) ps s = go (not (has (p .key) ps))
+  where
+    go : (b : Bool) → say (poppedFrom (coded (popped (p .key) (p .value) b))) ≡ say (popped (p .key) (p .value) b)
+    go true = refl
+    go false = refl
+
+read-back : (b : Bool) (s : State) → say (poppedFrom (coded (step (popOf b) s .0 .answer))) ≡ step (popOf b) s .0
+unfolding step checks act
+read-back true s = read-one (head? (s .pairs)) (tail (s .pairs)) s
+read-back false s = read-one (last? (s .pairs)) (dropLast (s .pairs)) s
+
+-- what the numbers tell is what the call does
+pub told-pop : (b : Bool) (m r : ListOrderedMultimap) (ans : List ℕ) → Told linked (popOf b) m r [] [] ans → Does linked (popOf b) m (say (poppedFrom ans)) r
+told-pop b m r ans t =
+    subst (λ (o : Outcome). Does linked (popOf b) m o r)
+    (t .does .outcome ∙ sym (read-back b (stateOf m)) ∙ ap (λ (o : Outcome). say (poppedFrom (coded (o .answer)))) (sym (t .does .outcome)) ∙ ap (λ (l : List ℕ). say (poppedFrom l)) (sym (t .ans-is)))
+    (t .does)

@@ -1,13 +1,14 @@
 -- Document 01's answer for each case of what `retain` and the pops answer; and what the two pops have in common.
 use Prim.Native.Nat.{ℕ}
 use mathlib.Core.Path.{_≡_}
-use mathlib.Core.Bool.{Bool, true, false, not}
+use mathlib.Core.Bool.{Bool, true, false, cond, not}
 use mathlib.Core.List.{List, map}
+use lib.Dec.{eqb}
 use Rattle.steps.specs.State.{Pair, has, remove-pair}
 use Rattle.steps.specs.Call.{Call, pop-front, pop-back, Answer, none, popped, count, refused}
 use Rattle.links.specs.Path.{without}
 use Rattle.links.specs.Places.{order}
-use Rattle.multimap.specs.Map.{pairAt, roundsOf, stateOf}
+use Rattle.multimap.specs.Map.{at, pairAt, roundsOf, stateOf}
 use Rattle.multimap.specs.WellLinked.{WellLinked}
 use Rattle.multimap.specs.declared.ListOrderedMultimap.{ListOrderedMultimap}
 use Rattle.changing.specs.declared.removing.Popped.{Popped}
@@ -18,6 +19,10 @@ use Rattle.changing.specs.declared.removing.Kept.the-variants.{Count, Ma
 abbrev pub poppedOf : Popped → Answer
 poppedOf Nothing = none
 poppedOf (APair k v gone) = popped k v gone
+
+-- the answer of a pop, read from its four numbers
+abbrev pub poppedFrom : List ℕ → Answer
+poppedFrom l = cond (eqb (at l 0) 1) none (popped (at l 1) (at l 2) (eqb (at l 3) 1))
 
 abbrev pub keptOf : Kept → Answer
 keptOf (Count n) = count n

@@ -8,6 +8,7 @@ ghost use mathlib.Core.Path.{_≡_};
 ghost use Prim.Native.Nat.{_+_, min};
 ghost use lib.Dec.{eqb};
 ghost use Rattle.links.specs.Path.{pick, walk};
+ghost use Rattle.steps.specs.Coded.{words};
 ghost use Rattle.steps.specs.State.{maxTaken};
 ghost use Rattle.changing.specs.Adding.{Ready, AddedTo, Joins, Joined, Posted};
 ghost use mathlib.Core.Bool.{cond};
@@ -22,6 +23,13 @@ ghost use Rattle.changing.specs.Sweep.{idle, Sweepable, Swept, RecordRem
 pub mod adding;
 pub mod inserting;
 pub mod removing;
+
+// An answer's four numbers.
+fn tell(answer: &mut [u64; 4], a: u64, b: u64, c: u64, d: u64)
+    ensures { λ r. ⌜ now (answer .exit) ≡ words a b c d ⌝ }
+{
+    *answer = [a, b, c, d];
+}
 
 // x where a is b, else y.
 fn either(a: u16, b: u16, x: u16, y: u16) -> u16

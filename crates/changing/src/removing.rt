@@ -4,16 +4,19 @@ use multimap::Counted;
 use multimap::Got;
 use multimap::ListOrderedMultimap;
 use multimap::ROUNDS;
+use multimap::ValuePlace;
 ghost use mathlib.Core.Path.{_≡_};
 ghost use mathlib.Core.Bool.{_||_};
+ghost use mathlib.Core.List.{[]};
 ghost use lib.Dec.{eqb};
+ghost use Rattle.steps.specs.Told.{Told};
 ghost use Rattle.steps.specs.Lists.{all};
 ghost use Rattle.steps.specs.Call.{remove as removing, remove-all as removing-all, pop-front as popping-front, pop-back as popping-back, retain as retaining};
 ghost use Rattle.steps.specs.Step.{say, write};
 ghost use Rattle.steps.specs.Trace.{Does};
 ghost use Rattle.multimap.specs.Answers.{gotOf, countedOf};
 ghost use Rattle.multimap.specs.WellLinked.{WellLinked, linked};
-ghost use Rattle.changing.specs.RemovingAnswer.{poppedOf, keptOf, popOf};
+ghost use Rattle.changing.specs.RemovingAnswer.{poppedOf, poppedFrom, keptOf, popOf};
 
 pub struct Removal {
     pub map: ListOrderedMultimap,
@@ -99,40 +102,76 @@ pub struct Pop {
     pub answer: Popped,
 }
 
-// The first round leaves, or the last. The map is read in place: where an array of it is copied to be read at a fixed place, the
-// compiler cuts the copies of the record there, and they are slower.
-fn pop_from(mut m: ListOrderedMultimap, front: bool) -> Pop
+// The first round leaves, or the last; the answer is told by its numbers. Rust and C call it so. It is one function since the map is
+// changed in place: a function for each part would copy the map to it and back.
+#[no_mangle]
+pub extern "C" fn om_pop(
+    mut m: ListOrderedMultimap,
+    front: bool,
+    answer: &mut [u64; 4],
+) -> ListOrderedMultimap
     requires { ⌜ WellLinked m ⌝ }
-    ensures { λ r. ⌜ Does linked (popOf front) m (say (poppedOf (r .answer))) (r .map) ⌝ }
+    ensures { λ r. ⌜ Told linked (popOf front) m r [] [] (now (answer .exit)) ⌝ }
 {
     let held = m.values_len;
     if held == 0 {
-        return Pop {
-            map: m,
-            answer: Popped::Nothing,
-        };
+        crate::tell(answer, 1, 0, 0, 0);
+        return m;
     }
     let first = m.next_value[1024];
     let last = m.previous_value[1024];
     let place = crate::choose(front, first.0, last.0);
     let x = place as usize;
+    let next = m.next_value[x];
+    let prev = m.previous_value[x];
+    let after = m.next_index[x];
+    let before = m.previous_index[x];
     let key = m.key_index[x];
     let k = key.0 as usize;
+    let n = m.length[k];
+    let free = m.values_free;
+    let freed = ValuePlace(place);
     let member = m.keys[k];
     let round = m.values[x];
-    let struck = crate::strike(m, false, place, 1, b"");
-    let lengths = struck.length;
-    let n = lengths[k];
-    if n == 0 {
-        let map = crate::sweep(struck, key.0, 1);
-        return Pop {
-            map,
-            answer: Popped::Pair(member, round, true),
-        };
+    m.next_value[prev.0 as usize] = next;
+    m.next_value[x] = free;
+    m.previous_value[next.0 as usize] = prev;
+    m.values_free = freed;
+    m.values_len = held - 1;
+    m.next_index[before.0 as usize] = after;
+    m.previous_index[after.0 as usize] = before;
+    m.length[k] = n - 1;
+    if 1 < n {
+        crate::tell(answer, 6, member, round, 0);
+        return m;
     }
-    Pop {
-        map: struck,
-        answer: Popped::Pair(member, round, false),
+    // It was the member's last round.
+    let keys = m.keys;
+    let then = m.next_key[k];
+    let ahead = m.previous_key[k];
+    let spare = m.keys_free;
+    index::remove(&mut m.index, &keys, member);
+    m.next_key[ahead.0 as usize] = then;
+    m.next_key[k] = spare;
+    m.previous_key[then.0 as usize] = ahead;
+    m.keys_free = key;
+    m.keys_len = m.keys_len - 1;
+    crate::tell(answer, 6, member, round, 1);
+    m
+}
+
+// What a pop answers, by its four numbers.
+fn pop_answer(told: [u64; 4]) -> Popped
+    ensures { λ r. ⌜ poppedOf r ≡ poppedFrom told ⌝ }
+{
+    let kind = told[0];
+    let member = told[1];
+    let round = told[2];
+    let gone = told[3];
+    if kind == 1 {
+        Popped::Nothing
+    } else {
+        Popped::Pair(member, round, gone == 1)
     }
 }
 
@@ -141,7 +180,12 @@ pub fn pop_front(m: ListOrderedMultimap) -> Pop
     requires { ⌜ WellLinked m ⌝ }
     ensures { λ r. ⌜ Does linked popping-front m (say (poppedOf (r .answer))) (r .map) ⌝ }
 {
-    pop_from(m, true)
+    let mut told = [0u64; 4];
+    let map = om_pop(m, true, &mut told);
+    Pop {
+        map,
+        answer: pop_answer(told),
+    }
 }
 
 // The last round leaves.
@@ -149,7 +193,12 @@ pub fn pop_back(m: ListOrderedMultimap) -> Pop
     requires { ⌜ WellLinked m ⌝ }
     ensures { λ r. ⌜ Does linked popping-back m (say (poppedOf (r .answer))) (r .map) ⌝ }
 {
-    pop_from(m, false)
+    let mut told = [0u64; 4];
+    let map = om_pop(m, false, &mut told);
+    Pop {
+        map,
+        answer: pop_answer(told),
+    }
 }
 
 // What `retain` answers: how many pairs are kept; or refused, by 7 or by 8.

@@ -1,0 +1,18 @@
+-- `changing::removing::pop_back` meets its contract: its answer is what `om_pop` told. Assumes nothing.
+use mathlib.Core.Bool.{false}
+use borrow.Author.Needs.{needs}
+use Rattle.changing.proofs.Pops.{told-pop}
+use Rattle.changing.proofs.removing.pop_back.Statement.{statement}
+use Rattle.changing.proofs.removing.pop_back.Tie as tie
+
+om-pop-requires : tie.Need-om-pop-requires
+om-pop-requires c κs = search needs
+
+pop-answer-requires : tie.Need-pop-answer-requires
+pop-answer-requires c κs = search needs
+
+returns : tie.Need-returns
+returns c = rw (c .pop-answer .ensures) (told-pop false (c .before .before .before .args .m) _ _ (c .before .om-pop .ensures))
+
+pub pop-back-spec : {M : Type 1} → statement M
+pop-back-spec = tie.close (tie.spec om-pop-requires pop-answer-requires returns)
