@@ -1,20 +1,21 @@
 -- Rounds struck by marks: that is the step of `retain`. Assumes nothing.
-use Prim.Native.Nat.{ℕ, _≤_, _<_}
+use Prim.Native.Nat.{ℕ, _+_, _≤_, _<_}
 use mathlib.Core.Path.{_≡_, refl, sym, ap, _∙_}
 use mathlib.Core.Logic.{_≢_, ⊎-elim}
-use mathlib.Core.Bool.{Bool, true, false, not, _&&_, _||_, false≢true}
+use mathlib.Core.Bool.{Bool, true, false, cond, not, _&&_, _||_, false≢true}
 use mathlib.Core.List.{List, [], _∷_, map, append-nil}
 use native.Mathlib.Omega.{arith}
 use borrow.Author.Tests.{eq-eqb, ne-eqb, eqb-true}
 use lib.Dec.{eqb}
 use lib.ListN.{length}
-use Rattle.steps.specs.Lists.{all}
+use Rattle.steps.specs.Lists.{filter, all}
 use Rattle.steps.specs.State.{State, Pair, kept, keep as keeping}
 use Rattle.steps.specs.Call.{refused}
 use Rattle.steps.specs.Call as C
 use Rattle.steps.specs.Step.{step, checks, act, say}
 use Rattle.steps.specs.Trace.{Does}
-use Rattle.steps.proofs.Doing.{does-refuse, does-change}
+use Rattle.steps.proofs.Doing.{does-stay, does-refuse, does-change}
+use Rattle.steps.proofs.Filter.{length-filter}
 use Rattle.links.specs.Path.{pick, count, keep, strip}
 use Rattle.links.specs.Places.{order}
 use Rattle.links.proofs.Paths.{same-or-not, count-same, count-other, Once, keep-same}
@@ -26,7 +27,7 @@ use Rattle.multimap.specs.declared.ListOrderedMultimap.{ListOrderedMultimap}
 use Rattle.multimap.proofs.Stores.{length-pairs}
 use Rattle.changing.specs.Strike.{chosen, visited, Stretch, Struck}
 use Rattle.changing.specs.Sweep.{idle, Sweepable, Swept}
-use Rattle.changing.proofs.Leaving.{struck-sound, left-linked, left-state}
+use Rattle.changing.proofs.Leaving.{struck-sound, left-linked, left-state, all-have}
 
 -- ---- the lists
 
@@ -92,6 +93,22 @@ module _ (g : ℕ → Pair) where
   kept-map : (ms vs : List ℕ) → Once vs → length ms ≡ length vs → proper ms ≡ true → map g (strip (chosen ms vs) vs) ≡ kept ms (map g vs)
   kept-map ms vs o l p = ap (map g) (strip-keep (chosen ms vs) vs) ∙ thinned ms vs o l p
 
+pub ones-more : (b : ℕ) (bs : List ℕ) → b ≤ 1 → length (filter (eqb 1) (b ∷ bs)) ≡ b + length (filter (eqb 1) bs)
+ones-more b bs h =
+    ⊎-elim (λ (e : b ≡ 0). rw (ne-eqb 1 b (λ u. omega (arith, u, e))) (omega arith)) (λ (e : b ≢ 0). rw (eq-eqb 1 b (omega arith)) (omega arith)) (same-or-not b 0)
+
+-- marks that are all 1 keep all
+kept-whole : (ms : List ℕ) (ps : List Pair) → length ms ≡ length ps → length (filter (eqb 1) ms) ≡ length ms → kept ms ps ≡ ps
+kept-whole [] [] l e = refl
+kept-whole [] (p ∷ ps) l e = absurd (omega arith)
+kept-whole (b ∷ bs) [] l e = absurd (omega arith)
+kept-whole (b ∷ bs) (p ∷ ps) l e = go (eqb 1 b) e (kept-whole bs ps (omega arith))
+  where
+    go : (t : Bool) → length (cond t (b ∷ filter (eqb 1) bs) (filter (eqb 1) bs)) ≡ length (b ∷ bs) → (length (filter (eqb 1) bs) ≡ length bs → kept bs ps ≡ ps)
+        → cond t (p ∷ kept bs ps) (kept bs ps) ≡ p ∷ ps
+    go true u ih = ap (λ (q : List Pair). p ∷ q) (ih (omega arith))
+    go false u ih = absurd (omega (arith, length-filter (eqb 1) bs))
+
 -- ---- the step
 
 module _ (ms : List ℕ) (s : State) where
@@ -120,6 +137,15 @@ module _ (ms : List ℕ) (m : ListOrderedMultimap) (g : WellLinked m) where
 
     pub refused-value : proper ms ≡ false → Does linked (C.retain ms) m (say (refused 8)) m
     refused-value h = does-refuse linked (C.retain ms) m 8 g (step-value ms (stateOf m) as-long h)
+
+    -- each mark is 1: nobody leaves
+    pub retained-all : proper ms ≡ true → length (filter (eqb 1) ms) ≡ m .«values_len» → Does linked (C.retain ms) m (say (C.count (m .«values_len»))) m
+    retained-all h e =
+        let k : kept ms (pairs m) ≡ pairs m = kept-whole ms (pairs m) (long ∙ sym (length-pairs m)) (e ∙ sym long) in
+        does-stay linked (C.retain ms) m (say (C.count (m .«values_len»))) refl g
+        (step-done ms (stateOf m) as-long h ∙ ap (λ (ps : List Pair). (say (C.count (length ps)), keeping ps (stateOf m))) k
+        ∙ ap (λ (n : ℕ). (say (C.count n), keeping (pairs m) (stateOf m))) (length-pairs m)
+        ∙ ap (λ (l : List ℕ). (say (C.count (m .«values_len»)), record { pairs = pairs m; members = l; taken = m .taken })) (all-have m g))
 
     pub all-stretch : Stretch false m (valueAt (m .«next_value») 1024) (m .«values_len»)
     all-stretch = record { chained = g .chained; front = []; back = []; whole = sym (append-nil (order (roundsOf m))) }

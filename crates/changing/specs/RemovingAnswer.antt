@@ -1,9 +1,11 @@
 -- Document 01's answer for each case of what `retain` and the pops answer; and what the two pops have in common.
 use Prim.Native.Nat.{ℕ}
 use mathlib.Core.Path.{_≡_}
-use mathlib.Core.Bool.{Bool, true, false, cond, not}
+use mathlib.Core.Bool.{Bool, true, false, cond, not, _||_}
 use mathlib.Core.List.{List, map}
 use lib.Dec.{eqb}
+use lib.ListN.{length}
+use Rattle.steps.specs.Lists.{filter, all}
 use Rattle.steps.specs.State.{Pair, has, remove-pair}
 use Rattle.steps.specs.Call.{Call, pop-front, pop-back, Answer, none, popped, count, refused}
 use Rattle.links.specs.Path.{without}
@@ -13,6 +15,7 @@ use Rattle.multimap.specs.WellLinked.{WellLinked}
 use Rattle.multimap.specs.declared.ListOrderedMultimap.{ListOrderedMultimap}
 use Rattle.changing.specs.declared.removing.Popped.{Popped}
 use Rattle.changing.specs.declared.removing.Popped.the-variants.{Nothing, Pair as APair}
+use Rattle.changing.specs.declared.removing.Marks.{Marks}
 use Rattle.changing.specs.declared.removing.Kept.{Kept}
 use Rattle.changing.specs.declared.removing.Kept.the-variants.{Count, MarksCount, MarkValue}
 
@@ -43,3 +46,8 @@ pub record PoppedAt (m : ListOrderedMultimap) (x : ℕ) (a : Popped) (r : ListOr
   pub answer : poppedOf a ≡ popped (pairAt m x .key) (pairAt m x .value) (not (has (pairAt m x .key) (rest m x)))
   pub state : stateOf r ≡ remove-pair (pairAt m x) (rest m x) (stateOf m)
   pub linked : WellLinked r
+
+-- what is to be known of marks: whether each is 0 or 1; and where that is so, how many are 1
+pub record OnesCounted (ms : List ℕ) (r : Marks) : Type 0 where
+  pub proper : r .proper ≡ all (λ b. eqb 0 b || eqb 1 b) ms
+  pub ones : r .proper ≡ true → r .ones ≡ length (filter (eqb 1) ms)

@@ -6,17 +6,14 @@ use multimap::ListOrderedMultimap;
 use multimap::ROUNDS;
 use multimap::ValuePlace;
 ghost use mathlib.Core.Path.{_≡_};
-ghost use mathlib.Core.Bool.{_||_};
 ghost use mathlib.Core.List.{[]};
-ghost use lib.Dec.{eqb};
 ghost use Rattle.steps.specs.Told.{Told};
-ghost use Rattle.steps.specs.Lists.{all};
 ghost use Rattle.steps.specs.Call.{remove as removing, remove-all as removing-all, pop-front as popping-front, pop-back as popping-back, retain as retaining};
 ghost use Rattle.steps.specs.Step.{say, write};
 ghost use Rattle.steps.specs.Trace.{Does};
 ghost use Rattle.multimap.specs.Answers.{gotOf, countedOf};
 ghost use Rattle.multimap.specs.WellLinked.{WellLinked, linked};
-ghost use Rattle.changing.specs.RemovingAnswer.{poppedOf, poppedFrom, keptOf, popOf};
+ghost use Rattle.changing.specs.RemovingAnswer.{poppedOf, poppedFrom, keptOf, popOf, OnesCounted};
 
 pub struct Removal {
     pub map: ListOrderedMultimap,
@@ -213,36 +210,56 @@ pub struct Retained {
     pub answer: Kept,
 }
 
-// Whether each mark is 0 or 1.
-fn proper(marks: &[u8]) -> bool
-    ensures { λ r. ⌜ r ≡ all (λ b. eqb 0 b || eqb 1 b) (now (marks .entry)) ⌝ }
-{
-    let mut i = 0;
-    while i < marks.len() {
-        if 1 < marks[i] {
-            return false;
-        }
-        i += 1;
-    }
-    true
+// Whether each mark is 0 or 1; and where that is so, how many are 1.
+struct Marks {
+    proper: bool,
+    ones: usize,
 }
 
-// The rounds with mark 1 are kept; the others leave, and members without a round.
+// A mark that is 0 or 1 is its own share of the count.
+fn count_ones(marks: &[u8]) -> Marks
+    ensures { λ r. ⌜ OnesCounted (now (marks .entry)) r ⌝ }
+{
+    let mut ones: usize = 0;
+    let mut i = 0;
+    while i < marks.len() {
+        let mark = marks[i];
+        if 1 < mark {
+            return Marks {
+                proper: false,
+                ones,
+            };
+        }
+        ones += mark as usize;
+        i += 1;
+    }
+    Marks { proper: true, ones }
+}
+
+// The rounds with mark 1 are kept; the others leave, and members without a round. Where all are kept the map is handed back as it is.
 pub fn retain(m: ListOrderedMultimap, marks: &[u8]) -> Retained
     requires { ⌜ WellLinked m ⌝ }
     ensures { λ r. ⌜ Does linked (retaining (now (marks .entry))) m (say (keptOf (r .answer))) (r .map) ⌝ }
 {
-    let held = m.values_len as usize;
+    let all = m.values_len;
+    let held = all as usize;
     if marks.len() != held {
         return Retained {
             map: m,
             answer: Kept::MarksCount,
         };
     }
-    if !proper(marks) {
+    let found = count_ones(marks);
+    if !found.proper {
         return Retained {
             map: m,
             answer: Kept::MarkValue,
+        };
+    }
+    if found.ones == held {
+        return Retained {
+            map: m,
+            answer: Kept::Count(all),
         };
     }
     let next = m.next_value;
