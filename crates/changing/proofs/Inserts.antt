@@ -1,34 +1,38 @@
 -- The steps of `insert` and `insert_all`. Assumes nothing.
 use Prim.Native.Nat.{ℕ, _+_, _≤_, _<_}
-use mathlib.Core.Path.{_≡_, refl, sym, ap, _∙_}
-use mathlib.Core.Bool.{true, false}
-use mathlib.Core.List.{List, map}
+use mathlib.Core.Path.{_≡_, refl, sym, ap, _∙_, subst}
+use mathlib.Core.Bool.{Bool, true, false}
+use mathlib.Core.List.{List, [], map}
 use borrow.Author.Tests.{lt-ltb, le-ltb}
 use lib.ListN.{length}
 use Rattle.steps.specs.State as St
 use Rattle.steps.specs.State.{State, rounds, others, add, replace, full, crowded, maxRounds, maxMembers}
-use Rattle.steps.specs.Call.{refused, none, round, insert, insert-all}
+use Rattle.steps.specs.Call.{Answer, Outcome, refused, none, round, insert, insert-all}
 use Rattle.steps.specs.Call as C
 use Rattle.steps.specs.Step.{step, checks, act, say, write, over, short, first}
+use Rattle.steps.specs.Accounting.{isRefused}
 use Rattle.steps.specs.Trace.{Does}
+use Rattle.steps.specs.Coded.{coded}
+use Rattle.steps.specs.Told.{Told}
 use Rattle.steps.proofs.Doing.{does-refuse, does-change}
 use Rattle.links.specs.Path.{walk}
-use Rattle.multimap.specs.Map.{at, valueAt, pairs, members, stateOf}
+use Rattle.multimap.specs.Map.{at, valueAt, pairs, stateOf}
 use Rattle.multimap.specs.WellLinked.{WellLinked, linked}
 use Rattle.multimap.specs.declared.ListOrderedMultimap.{ListOrderedMultimap}
 use Rattle.multimap.proofs.States.{Unknown, is-full, not-full, is-crowded, not-crowded}
 use Rattle.multimap.proofs.Records.{Member, first-round}
 use Rattle.changing.specs.Adding.{AddedTo, Posted}
 use Rattle.changing.specs.Strike.{Emptied}
+use Rattle.changing.specs.InsertingAnswer.{insertedAllFrom}
 
 -- ---- the steps, case by case
 
 module _ (k v : ℕ) (s : State) where
-  step-full : St.present k s ≡ false → full s ≡ true → step (insert k v) s ≡ (say (refused 1), s)
+  pub step-full : St.present k s ≡ false → full s ≡ true → step (insert k v) s ≡ (say (refused 1), s)
   unfolding step checks
   step-full p f = rw (p, f)
 
-  step-crowded : St.present k s ≡ false → full s ≡ false → crowded s ≡ true → step (insert k v) s ≡ (say (refused 2), s)
+  pub step-crowded : St.present k s ≡ false → full s ≡ false → crowded s ≡ true → step (insert k v) s ≡ (say (refused 2), s)
   unfolding step checks
   step-crowded p f c = rw (p, f, c)
 
@@ -36,7 +40,7 @@ module _ (k v : ℕ) (s : State) where
   unfolding step checks act
   step-known p = rw (p, p)
 
-  step-new : St.present k s ≡ false → full s ≡ false → crowded s ≡ false → step (insert k v) s ≡ (say (first (rounds k (s .pairs))), replace k v s)
+  pub step-new : St.present k s ≡ false → full s ≡ false → crowded s ≡ false → step (insert k v) s ≡ (say (first (rounds k (s .pairs))), replace k v s)
   unfolding step checks act
   step-new p f c = rw (p, f, c, p)
 
@@ -90,16 +94,18 @@ module _ (k v : ℕ) (m : ListOrderedMultimap) (g : WellLinked m) where
           does-change linked (insert k v) m (say (round (at (m .values) h))) (replace k v (stateOf m)) r refl refl
           (step-known k v (stateOf m) (u .present) ∙ rw e) state (a .linked)
 
-      pub insert-all-known : (out last : List ℕ) → at (m .length) x ≤ length out
-          → last ≡ over (map (at (m .values)) (walk (valueAt (m .«next_index»)) (valueAt (m .«next_index») (1024 + x)) (at (m .length) x))) out
-          → Does linked (insert-all k v out) m (write (C.count (at (m .length) x)) last) r
-      insert-all-known out last room copied =
-          let next : (ℕ → ℕ) = valueAt (m .«next_index») in
-          let fits : short out (rounds k (pairs m)) ≡ false = le-ltb (length out) (length (rounds k (pairs m))) (rw (u .many) room) in
-          let w : map (at (m .values)) (walk next (next (1024 + x)) (at (m .length) x)) ≡ rounds k (pairs m) = rw (u .walked) (sym (u .rounds)) in
-          let e : last ≡ over (rounds k (pairs m)) out = copied ∙ ap (λ (l : List ℕ). over l out) w in
-          does-change linked (insert-all k v out) m (write (C.count (at (m .length) x)) last) (replace k v (stateOf m)) r refl refl
-          (step-all-known k v (stateOf m) out (u .present) fits ∙ rw (e, u .many)) state (a .linked)
+    -- after `insert` the map is what `insert_all` leaves
+    pub insert-all-known : (o : Outcome) (r : ListOrderedMultimap) → Does linked (insert k v) m o r → (out last : List ℕ) → at (m .length) x ≤ length out
+        → last ≡ over (map (at (m .values)) (walk (valueAt (m .«next_index»)) (valueAt (m .«next_index») (1024 + x)) (at (m .length) x))) out
+        → Does linked (insert-all k v out) m (write (C.count (at (m .length) x)) last) r
+    insert-all-known o r d out last room copied =
+        let next : (ℕ → ℕ) = valueAt (m .«next_index») in
+        let fits : short out (rounds k (pairs m)) ≡ false = le-ltb (length out) (length (rounds k (pairs m))) (rw (u .many) room) in
+        let w : map (at (m .values)) (walk next (next (1024 + x)) (at (m .length) x)) ≡ rounds k (pairs m) = rw (u .walked) (sym (u .rounds)) in
+        let e : last ≡ over (rounds k (pairs m)) out = copied ∙ ap (λ (l : List ℕ). over l out) w in
+        does-change linked (insert-all k v out) m (write (C.count (at (m .length) x)) last) (replace k v (stateOf m)) r refl refl
+        (step-all-known k v (stateOf m) out (u .present) fits ∙ rw (e, u .many))
+        (d .state ∙ ap (λ (p : Outcome × State). p .1) (step-known k v (stateOf m) (u .present))) (d .linked)
 
   -- no member has it
   module _ (p : ℕ) (u : Unknown m k p) where
@@ -110,17 +116,10 @@ module _ (k v : ℕ) (m : ListOrderedMultimap) (g : WellLinked m) where
       pub insert-full : Does linked (insert k v) m (say (refused 1)) m
       insert-full = does-refuse linked (insert k v) m 1 g (step-full k v (stateOf m) (u .nobody .absent) (is-full m full))
 
-      pub insert-all-full : (out : List ℕ) → Does linked (insert-all k v out) m (write (refused 1) out) m
-      insert-all-full out = does-refuse linked (insert-all k v out) m 1 g (step-all-full k v (stateOf m) out (u .nobody .absent) (is-full m full))
-
     module _ (room : m .«values_len» < maxRounds) where
       module _ (many : maxMembers ≤ m .«keys_len») where
         pub insert-crowded : Does linked (insert k v) m (say (refused 2)) m
         insert-crowded = does-refuse linked (insert k v) m 2 g (step-crowded k v (stateOf m) (u .nobody .absent) (not-full m room) (is-crowded m many))
-
-        pub insert-all-crowded : (out : List ℕ) → Does linked (insert-all k v out) m (write (refused 2) out) m
-        insert-all-crowded out =
-            does-refuse linked (insert-all k v out) m 2 g (step-all-crowded k v (stateOf m) out (u .nobody .absent) (not-full m room) (is-crowded m many))
 
       module _ (spare : m .«keys_len» < maxMembers) (r : ListOrderedMultimap) (a : Posted m k v r) where
         pub insert-new : Does linked (insert k v) m (say none) r
@@ -128,7 +127,39 @@ module _ (k v : ℕ) (m : ListOrderedMultimap) (g : WellLinked m) where
             does-change linked (insert k v) m (say none) (replace k v (stateOf m)) r refl refl
             (step-new k v (stateOf m) (u .nobody .absent) (not-full m room) (not-crowded m spare) ∙ rw (u .nobody .rounds)) (a .state ∙ sym replaced) (a .linked)
 
-        pub insert-all-new : (out : List ℕ) → Does linked (insert-all k v out) m (write (C.count 0) out) r
-        insert-all-new out =
-            does-change linked (insert-all k v out) m (write (C.count 0) out) (replace k v (stateOf m)) r refl refl
-            (step-all-new k v (stateOf m) out (u .nobody .absent) (not-full m room) (not-crowded m spare) ∙ rw (u .nobody .rounds)) (a .state ∙ sym replaced) (a .linked)
+    -- the same of `insert_all`, by what `insert` has told
+    module _ (out : List ℕ) (r : ListOrderedMultimap) (ns : List ℕ) (t : Told linked (insert k v) m r [] [] ns) where
+      abbrev Done : List ℕ → ListOrderedMultimap → Type 0
+      Done l y = Does linked (insert-all k v out) m (write (insertedAllFrom l) out) y
+
+      -- the answer of `insert`
+      module _ (a : Answer) (st : State) (e : step (insert k v) (stateOf m) ≡ (say a, st)) where
+        outcome : t .outcome ≡ say a
+        outcome = t .does .outcome ∙ ap (λ (p : Outcome × State). p .0) e
+
+        numbers : coded a ≡ ns
+        numbers = sym (t .ans-is ∙ ap (λ (o : Outcome). coded (o .answer)) outcome)
+
+        -- a refusal
+        refuses : isRefused a ≡ true → Done (coded a) m → Done ns r
+        refuses i d = subst (Done ns) (sym (t .does .same (ap (λ (o : Outcome). isRefused (o .answer)) outcome ∙ i))) (subst (λ (l : List ℕ). Done l m) numbers d)
+
+        -- or not
+        changes : Done (coded a) r → Done ns r
+        changes d = subst (λ (l : List ℕ). Done l r) numbers d
+
+      all-cases : (a b : Bool) → full (stateOf m) ≡ a → crowded (stateOf m) ≡ b → Done ns r
+      all-cases true b f c =
+          refuses (refused 1) (stateOf m) (step-full k v (stateOf m) (u .nobody .absent) f) refl
+          (does-refuse linked (insert-all k v out) m 1 g (step-all-full k v (stateOf m) out (u .nobody .absent) f))
+      all-cases false true f c =
+          refuses (refused 2) (stateOf m) (step-crowded k v (stateOf m) (u .nobody .absent) f c) refl
+          (does-refuse linked (insert-all k v out) m 2 g (step-all-crowded k v (stateOf m) out (u .nobody .absent) f c))
+      all-cases false false f c =
+          let e : step (insert k v) (stateOf m) ≡ (say none, replace k v (stateOf m)) = step-new k v (stateOf m) (u .nobody .absent) f c ∙ rw (u .nobody .rounds) in
+          changes none (replace k v (stateOf m)) e
+          (does-change linked (insert-all k v out) m (write (C.count 0) out) (replace k v (stateOf m)) r refl refl
+          (step-all-new k v (stateOf m) out (u .nobody .absent) f c ∙ rw (u .nobody .rounds)) (t .does .state ∙ ap (λ (p : Outcome × State). p .1) e) (t .does .linked))
+
+      pub insert-all-new : Does linked (insert-all k v out) m (write (insertedAllFrom ns) out) r
+      insert-all-new = all-cases (full (stateOf m)) (crowded (stateOf m)) refl refl

@@ -101,7 +101,7 @@ module _ (m : ListOrderedMultimap) (k p : ℕ) (h : Joins m k p) (s : Sized m) (
         room = h .room;
       }
 
-  last-now : lastKey r ≡ key
+  pub last-now : lastKey r ≡ key
   last-now =
       ap (λ (y : KeyPlace). y .0)
       (getD-set-same (set (m .«previous_key») key (record { 0 = last })) 256 (record { 0 = key }) (record { 0 = 0 }) (rw (length-set, s .previous-key) (omega arith)))

@@ -11,3 +11,5 @@ pub mod Removes
 pub mod Pops
 pub mod Retains
 pub mod Inserts
+pub mod Tells
+pub mod Posting

@@ -12,7 +12,7 @@ use lib.ListN.{length}
 use lib.Seq.{getD-set-same}
 use Rattle.steps.specs.Lists.{filter, last?}
 use Rattle.steps.specs.State.{State, Pair, has, of, leave, remove-pair, keep as keeping}
-use Rattle.steps.specs.Call.{Call, Outcome, popped, none, pop-front, pop-back}
+use Rattle.steps.specs.Call.{Call, popped, none, pop-front, pop-back}
 use Rattle.steps.specs.Step.{step, checks, act, say, pop}
 use Rattle.steps.specs.Trace.{Does}
 use Rattle.steps.specs.Coded.{coded}
@@ -30,6 +30,7 @@ use Rattle.multimap.specs.Map.{at, keyAt, valueAt, pairAt, pairs, members, roun
 use Rattle.multimap.specs.WellLinked.{WellLinked, linked}
 use Rattle.multimap.specs.declared.ListOrderedMultimap.{ListOrderedMultimap}
 use Rattle.multimap.proofs.Stores.{map-append, Sized}
+use Rattle.changing.proofs.Tells.{told-does}
 use Rattle.changing.specs.Strike.{Stretch, Struck, RoundPlace}
 use Rattle.changing.specs.Sweep.{idle, Sound, Sweepable, Swept}
 use Rattle.changing.specs.RemovingAnswer.{poppedOf, poppedFrom, popOf, rest, PoppedAt}
@@ -335,7 +336,4 @@ read-back false s = read-one (last? (s .pairs)) (dropLast (s .pairs)) s
 
 -- what the numbers tell is what the call does
 pub told-pop : (b : Bool) (m r : ListOrderedMultimap) (ans : List ℕ) → Told linked (popOf b) m r [] [] ans → Does linked (popOf b) m (say (poppedFrom ans)) r
-told-pop b m r ans t =
-    subst (λ (o : Outcome). Does linked (popOf b) m o r)
-    (t .does .outcome ∙ sym (read-back b (stateOf m)) ∙ ap (λ (o : Outcome). say (poppedFrom (coded (o .answer)))) (sym (t .does .outcome)) ∙ ap (λ (l : List ℕ). say (poppedFrom l)) (sym (t .ans-is)))
-    (t .does)
+told-pop b m r ans t = told-does (popOf b) m r ans poppedFrom (sym (read-back b (stateOf m))) t

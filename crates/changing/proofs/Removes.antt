@@ -5,14 +5,14 @@ use mathlib.Core.Bool.{true, false, _&&_, and-false}
 use mathlib.Core.List.{List, map}
 use borrow.Author.Tests.{lt-ltb, le-ltb}
 use lib.ListN.{length}
-use Rattle.steps.specs.State.{State, rounds, others, leave, remove-member}
+use Rattle.steps.specs.State.{State, rounds, remove-member}
 use Rattle.steps.specs.State as St
 use Rattle.steps.specs.Call.{refused, none, round, remove, remove-all}
 use Rattle.steps.specs.Call as C
 use Rattle.steps.specs.Step.{step, checks, act, say, write, over, short, first}
 use Rattle.steps.specs.Trace.{Does}
 use Rattle.steps.proofs.Doing.{does-stay, does-refuse, does-change}
-use Rattle.links.specs.Path.{count, walk}
+use Rattle.links.specs.Path.{walk}
 use Rattle.multimap.specs.Map.{at, valueAt, pairs, stateOf}
 use Rattle.multimap.specs.WellLinked.{WellLinked, linked}
 use Rattle.multimap.specs.declared.ListOrderedMultimap.{ListOrderedMultimap}

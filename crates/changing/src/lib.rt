@@ -1,7 +1,6 @@
 // The calls that change a map. Here stand the private functions that they are made of, each in place; the modules hold the calls.
 use index::KeyPlace;
 use multimap::ListOrderedMultimap;
-use multimap::MEMBERS;
 use multimap::ROUNDS;
 use multimap::ValuePlace;
 ghost use mathlib.Core.Path.{_≡_};
@@ -10,7 +9,6 @@ ghost use lib.Dec.{eqb};
 ghost use Rattle.links.specs.Path.{pick, walk};
 ghost use Rattle.steps.specs.Coded.{words};
 ghost use Rattle.steps.specs.State.{maxTaken};
-ghost use Rattle.changing.specs.Adding.{Ready, AddedTo, Joins, Joined, Posted};
 ghost use mathlib.Core.Bool.{cond};
 ghost use mathlib.Core.List.{map};
 ghost use lib.ListN.{getD};
@@ -43,92 +41,6 @@ fn more(taken: u32) -> u32
     ensures { λ r. ⌜ r ≡ min (taken + 1) maxTaken ⌝ }
 {
     if taken < 4294967295 { taken + 1 } else { taken }
-}
-
-// The map with the new member k at the back, with no round yet. Its place in the index is `at`.
-fn join(mut m: ListOrderedMultimap, k: u64, at: usize) -> ListOrderedMultimap
-    requires { ⌜ Joins m k at ⌝ }
-    ensures { λ r. ⌜ Joined m k r ⌝ }
-{
-    let held = m.keys_len;
-    let used = m.keys_fresh;
-    let free = m.keys_free;
-    // The first freed place, or where there is none a fresh one.
-    let key = either(held, used, used, free.0);
-    let i = key as usize;
-    let then = m.next_key[i];
-    let freed = KeyPlace(either(held, used, free.0, then.0));
-    let fresh = either(held, used, used + 1, used);
-    let last = m.previous_key[256];
-    let before = last.0 as usize;
-    // The cell with the head and the tail of the member's rounds.
-    let end = ROUNDS + key;
-    let e = end as usize;
-    m.keys_len = held + 1;
-    m.keys_fresh = fresh;
-    m.keys_free = freed;
-    m.next_key[before] = KeyPlace(key);
-    m.next_key[i] = KeyPlace(MEMBERS);
-    m.previous_key[i] = last;
-    m.previous_key[256] = KeyPlace(key);
-    m.keys[i] = k;
-    m.length[i] = 0;
-    m.index[at] = key;
-    m.next_index[e] = ValuePlace(end);
-    m.previous_index[e] = ValuePlace(end);
-    m
-}
-
-// The map with the round v of the member place `key` at the back.
-fn add_round(mut m: ListOrderedMultimap, key: u16, v: u64) -> ListOrderedMultimap
-    requires { ⌜ Ready m key ⌝ }
-    ensures { λ r. ⌜ AddedTo m key v r ⌝ }
-{
-    let held = m.values_len;
-    let used = m.values_fresh;
-    let free = m.values_free;
-    // The first freed place, or where there is none a fresh one.
-    let place = either(held, used, used, free.0);
-    let x = place as usize;
-    let then = m.next_value[x];
-    let freed = ValuePlace(either(held, used, free.0, then.0));
-    let fresh = either(held, used, used + 1, used);
-    let last = m.previous_value[1024];
-    let before = last.0 as usize;
-    let k = key as usize;
-    let n = m.length[k];
-    // The cell with the head and the tail of the member's rounds.
-    let end = ROUNDS + key;
-    let e = end as usize;
-    let tail = m.previous_index[e];
-    let t = tail.0 as usize;
-    m.values_len = held + 1;
-    m.values_fresh = fresh;
-    m.values_free = freed;
-    m.next_value[before] = ValuePlace(place);
-    m.next_value[x] = ValuePlace(ROUNDS);
-    m.previous_value[x] = last;
-    m.previous_value[1024] = ValuePlace(place);
-    m.values[x] = v;
-    m.key_index[x] = KeyPlace(key);
-    m.next_index[t] = ValuePlace(place);
-    m.next_index[x] = ValuePlace(end);
-    m.previous_index[x] = tail;
-    m.previous_index[e] = ValuePlace(place);
-    m.length[k] = n + 1;
-    m.taken = more(m.taken);
-    m
-}
-
-// The map with the new member k at the back and its first round v. Its place in the index is `at`.
-fn admit(m: ListOrderedMultimap, k: u64, at: usize, v: u64) -> ListOrderedMultimap
-    requires { ⌜ Joins m k at ⌝ }
-    ensures { λ r. ⌜ Posted m k v r ⌝ }
-{
-    let joined = join(m, k, at);
-    let previous = joined.previous_key;
-    let last = previous[256];
-    add_round(joined, last.0, v)
 }
 
 // x where the test holds, else y.

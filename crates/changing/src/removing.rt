@@ -157,8 +157,8 @@ pub extern "C" fn om_pop(
     m
 }
 
-// What a pop answers, by its four numbers.
-fn pop_answer(told: [u64; 4]) -> Popped
+// What the numbers of a pop tell.
+fn popped_from(told: [u64; 4]) -> Popped
     ensures { λ r. ⌜ poppedOf r ≡ poppedFrom told ⌝ }
 {
     let kind = told[0];
@@ -181,7 +181,7 @@ pub fn pop_front(m: ListOrderedMultimap) -> Pop
     let map = om_pop(m, true, &mut told);
     Pop {
         map,
-        answer: pop_answer(told),
+        answer: popped_from(told),
     }
 }
 
@@ -194,7 +194,7 @@ pub fn pop_back(m: ListOrderedMultimap) -> Pop
     let map = om_pop(m, false, &mut told);
     Pop {
         map,
-        answer: pop_answer(told),
+        answer: popped_from(told),
     }
 }
 

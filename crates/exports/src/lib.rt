@@ -1,5 +1,6 @@
-// Functions that Rust or C can link to: every call of document 01, the image, the check of any record, and lists of calls. A map passes by value,
-// in the layout that #[repr(C)] gives its record, and an answer as the four numbers of `answers::numbers`.
+// Functions that Rust or C can link to: the calls of document 01, the image, the check of any record, and lists of calls. A map passes by value,
+// in the layout that #[repr(C)] gives its record, and an answer as the four numbers of `answers::numbers`. `append` and `insert` are om_post of
+// crate changing, and the pops om_pop: a function here that called them would copy the map once more.
 use answers::Answer;
 use image::Reading;
 use image::Written;
@@ -63,30 +64,6 @@ pub extern "C" fn om_well_linked(m: ListOrderedMultimap) -> u64
 }
 
 // The calls that may change the map.
-#[no_mangle]
-pub extern "C" fn om_append(m: ListOrderedMultimap, k: u64, v: u64) -> Reply
-    requires { ⌜ WellLinked m ⌝ }
-    ensures { λ r. ⌜ Told linked (C.append k v) m (r .map) [] [] (r .answer) ⌝ }
-{
-    let done = ordered_multimap::append(m, k, v);
-    let said = done.answer;
-    let answer = answers::numbers(answers::added(said));
-    let map = done.map;
-    Reply { map, answer }
-}
-
-#[no_mangle]
-pub extern "C" fn om_insert(m: ListOrderedMultimap, k: u64, v: u64) -> Reply
-    requires { ⌜ WellLinked m ⌝ }
-    ensures { λ r. ⌜ Told linked (C.insert k v) m (r .map) [] [] (r .answer) ⌝ }
-{
-    let done = ordered_multimap::insert(m, k, v);
-    let said = done.answer;
-    let answer = answers::numbers(answers::inserted(said));
-    let map = done.map;
-    Reply { map, answer }
-}
-
 #[no_mangle]
 pub extern "C" fn om_insert_all(m: ListOrderedMultimap, k: u64, v: u64, out: &mut [u64]) -> Reply
     requires { ⌜ WellLinked m ⌝ }
@@ -167,30 +144,6 @@ pub extern "C" fn om_vacant_insert(m: ListOrderedMultimap, k: u64, v: u64) -> Re
     let done = ordered_multimap::vacant_entry::insert(m, k, v);
     let said = done.answer;
     let answer = answers::numbers(answers::vacant(said));
-    let map = done.map;
-    Reply { map, answer }
-}
-
-#[no_mangle]
-pub extern "C" fn om_pop_front(m: ListOrderedMultimap) -> Reply
-    requires { ⌜ WellLinked m ⌝ }
-    ensures { λ r. ⌜ Told linked C.pop-front m (r .map) [] [] (r .answer) ⌝ }
-{
-    let done = ordered_multimap::pop_front(m);
-    let said = done.answer;
-    let answer = answers::numbers(answers::popped(said));
-    let map = done.map;
-    Reply { map, answer }
-}
-
-#[no_mangle]
-pub extern "C" fn om_pop_back(m: ListOrderedMultimap) -> Reply
-    requires { ⌜ WellLinked m ⌝ }
-    ensures { λ r. ⌜ Told linked C.pop-back m (r .map) [] [] (r .answer) ⌝ }
-{
-    let done = ordered_multimap::pop_back(m);
-    let said = done.answer;
-    let answer = answers::numbers(answers::popped(said));
     let map = done.map;
     Reply { map, answer }
 }

@@ -8,11 +8,11 @@ use Rattle.changing.proofs.removing.pop_front.Tie as tie
 om-pop-requires : tie.Need-om-pop-requires
 om-pop-requires c κs = search needs
 
-pop-answer-requires : tie.Need-pop-answer-requires
-pop-answer-requires c κs = search needs
+popped-from-requires : tie.Need-popped-from-requires
+popped-from-requires c κs = search needs
 
 returns : tie.Need-returns
-returns c = rw (c .pop-answer .ensures) (told-pop true (c .before .before .before .args .m) _ _ (c .before .om-pop .ensures))
+returns c = rw (c .popped-from .ensures) (told-pop true (c .before .before .before .args .m) _ _ (c .before .om-pop .ensures))
 
 pub pop-front-spec : {M : Type 1} → statement M
-pop-front-spec = tie.close (tie.spec om-pop-requires pop-answer-requires returns)
+pop-front-spec = tie.close (tie.spec om-pop-requires popped-from-requires returns)

@@ -1,8 +1,8 @@
--- `changing::removing::pop_answer` meets its contract. Assumes nothing.
+-- `changing::removing::popped_from` meets its contract. Assumes nothing.
 use borrow.Author.Needs.{needs}
 use borrow.Author.Tests.{eq-eqb, ne-eqb}
-use Rattle.changing.proofs.removing.pop_answer.Statement.{statement}
-use Rattle.changing.proofs.removing.pop_answer.Tie as tie
+use Rattle.changing.proofs.removing.popped_from.Statement.{statement}
+use Rattle.changing.proofs.removing.popped_from.Tie as tie
 
 array-read-kind : tie.Need-array-read-kind
 array-read-kind c = search needs
@@ -22,7 +22,7 @@ returns c = rw (eq-eqb _ 1 (c .if1 .taken))
 returns-2 : tie.Need-returns-2
 returns-2 c = rw (ne-eqb _ 1 (c .if1 .left))
 
-pub pop-answer-spec : {M : Type 1} → statement M
-pop-answer-spec =
+pub popped-from-spec : {M : Type 1} → statement M
+popped-from-spec =
     tie.close
     (tie.spec array-read-kind array-read-member array-read-round array-read-gone returns returns-2)
