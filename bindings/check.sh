@@ -5,7 +5,7 @@ set -eu
 
 cd "$(dirname "$0")/.."
 bindings/library.sh
-PRELGAMMO_STATICLIB=$PWD/target/bindings/libexports.a
+PRELGAMMO_STATICLIB=$PWD/target/bindings/libprelgammo.a
 export PRELGAMMO_STATICLIB
 cargo test -q --offline --manifest-path bindings/rust/Cargo.toml
 bindings/c/check.sh

@@ -1,12 +1,18 @@
 #!/bin/sh
-# Puts libexports.a to target/bindings: the one that PRELGAMMO_STATICLIB names, or else `rt staticlib exports` makes it.
+# Puts libprelgammo.a to target/bindings: the one that PRELGAMMO_STATICLIB names, or else what `rt staticlib` proves and builds of the
+# crates exports and changing, in one archive.
 set -eu
 
-root=$(cd "$(dirname "$0")/.." && pwd)
-mkdir -p "$root/target/bindings"
-if [ -z "${PRELGAMMO_STATICLIB:-}" ]; then
-    (cd "$root" && rt staticlib exports)
-    PRELGAMMO_STATICLIB=$root/target/staticlib/libexports.a
+cd "$(dirname "$0")/.."
+out=$PWD/target/bindings
+mkdir -p "$out"
+if [ -n "${PRELGAMMO_STATICLIB:-}" ]; then
+    cp -p "$PRELGAMMO_STATICLIB" "$out/libprelgammo.a.new"
+else
+    rt staticlib exports
+    rt staticlib changing
+    (cd target/staticlib && ar x libexports.a && ar x libchanging.a)
+    rm -f "$out/libprelgammo.a.new"
+    ar rcs "$out/libprelgammo.a.new" target/staticlib/exports.o target/staticlib/changing.o
 fi
-cp -p "$PRELGAMMO_STATICLIB" "$root/target/bindings/libexports.a.new"
-mv "$root/target/bindings/libexports.a.new" "$root/target/bindings/libexports.a"
+mv "$out/libprelgammo.a.new" "$out/libprelgammo.a"

@@ -1,6 +1,6 @@
 #!/bin/sh
 # Runs the comparison with the Rust crate, all of it from nothing: fetches by apt-get what is missing, builds the crate,
-# the port's static library (where crates.txt has the crate exports), the driver and, where its argument says so, the calls
+# the port's static libraries (where crates.txt has the crate exports), the driver and, where its argument says so, the calls
 # program. Nothing is written to the repository outside target/, save by the argument sample.
 #
 #   oracle/run.sh [quick|full] [SEED]    the driver's own tests, the confirmed differences, the mixes of EntryValues, the
@@ -32,7 +32,8 @@ oracle/build.sh
 port=
 if grep -q '^exports:' crates.txt; then
     rt staticlib exports
-    port="--cfg port -L native=target/staticlib -l static=exports"
+    rt staticlib changing
+    port="--cfg port -L native=target/staticlib -l static=exports -l static=changing"
 else
     echo "the port is not linked: crates.txt has no crate exports"
 fi

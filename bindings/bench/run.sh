@@ -7,7 +7,7 @@ cd "$(dirname "$0")/../.."
 out=target/bindings
 oracle/build.sh
 bindings/library.sh
-rustc --edition 2021 -O --crate-type rlib --crate-name prelgammo -L "native=$out" -l static=exports --out-dir "$out" \
+rustc --edition 2021 -O --crate-type rlib --crate-name prelgammo -L "native=$out" -l static=prelgammo --out-dir "$out" \
     bindings/rust/src/lib.rs
 rustc --edition 2021 -O --crate-name bench -L dependency=target/oracle --extern "prelgammo=$out/libprelgammo.rlib" \
     --extern ordered_multimap=target/oracle/libordered_multimap.rlib -o "$out/bench" bindings/bench/main.rs

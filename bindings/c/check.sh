@@ -5,7 +5,7 @@ set -eu
 here=$(cd "$(dirname "$0")" && pwd)
 "$here/../library.sh"
 out=$here/../../target/bindings
-cc -Wall -Wextra -Werror -std=c11 -O2 -o "$out/example" "$here/example.c" "$out/libexports.a"
+cc -Wall -Wextra -Werror -std=c11 -O2 -o "$out/example" "$here/example.c" "$out/libprelgammo.a"
 "$out/example" >"$out/example.out"
 diff "$here/example.out" "$out/example.out"
 echo "the C example prints what it should"

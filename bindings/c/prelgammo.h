@@ -1,4 +1,5 @@
-/* The proved map from C: the functions of libexports.a (crate exports, `rt staticlib exports`), for x86-64.
+/* The proved map from C: the functions of libprelgammo.a (bindings/library.sh makes it of the crates exports and changing), for
+ * x86-64.
  *
  * A map passes by value. Every function that takes one, om_well_linked alone excepted, asks that it is well-linked:
  * that it came from one of these functions, or that om_well_linked says 1 of it.
@@ -12,6 +13,7 @@
 #define PRELGAMMO_H
 
 #include <assert.h>
+#include <stdbool.h>
 #include <stddef.h>
 #include <stdint.h>
 
@@ -99,12 +101,25 @@ ListOrderedMultimap om_new(void);
 /* 1 where the map is well-linked, else 0. Takes any record. */
 uint64_t om_well_linked(ListOrderedMultimap m);
 
+/* om_append, or where over is true om_insert, with the answer's numbers written to answer. */
+ListOrderedMultimap om_post(ListOrderedMultimap m, uint64_t k, uint64_t v, bool over, uint64_t answer[4]);
+
 /* Adds round v of member k at the back: OM_PRESENT. Refused by 1, 2. */
-om_reply om_append(ListOrderedMultimap m, uint64_t k, uint64_t v);
+static inline om_reply om_append(ListOrderedMultimap m, uint64_t k, uint64_t v)
+{
+    om_reply reply;
+    reply.map = om_post(m, k, v, false, reply.answer);
+    return reply;
+}
 
 /* Replaces all rounds of k by v, at the back: OM_ROUND, the first of the old ones, or OM_NONE. Refused by 1, 2 where k
  * is absent. */
-om_reply om_insert(ListOrderedMultimap m, uint64_t k, uint64_t v);
+static inline om_reply om_insert(ListOrderedMultimap m, uint64_t k, uint64_t v)
+{
+    om_reply reply;
+    reply.map = om_post(m, k, v, true, reply.answer);
+    return reply;
+}
 
 /* The same, and writes all of the old rounds to out: OM_COUNT. Refused by 1, 2 where k is absent, else by 3. */
 om_reply om_insert_all(ListOrderedMultimap m, uint64_t k, uint64_t v, uint64_t *out, size_t out_len);
@@ -127,11 +142,24 @@ om_reply om_occupied_remove_entry(ListOrderedMultimap m, uint64_t k);
 /* Adds round v of the absent member k at the back: OM_DONE. Refused by 10, 1, 2. */
 om_reply om_vacant_insert(ListOrderedMultimap m, uint64_t k, uint64_t v);
 
+/* om_pop_front, or where front is false om_pop_back, with the answer's numbers written to answer. */
+ListOrderedMultimap om_pop(ListOrderedMultimap m, bool front, uint64_t answer[4]);
+
 /* Takes the first round out: OM_POPPED, or OM_NONE. */
-om_reply om_pop_front(ListOrderedMultimap m);
+static inline om_reply om_pop_front(ListOrderedMultimap m)
+{
+    om_reply reply;
+    reply.map = om_pop(m, true, reply.answer);
+    return reply;
+}
 
 /* Takes the last round out: OM_POPPED, or OM_NONE. */
-om_reply om_pop_back(ListOrderedMultimap m);
+static inline om_reply om_pop_back(ListOrderedMultimap m)
+{
+    om_reply reply;
+    reply.map = om_pop(m, false, reply.answer);
+    return reply;
+}
 
 /* Takes the rounds with mark 0 out and keeps those with mark 1, one mark for each in the order of om_iter: OM_COUNT,
  * how many are kept. Refused by 7, 8. */

@@ -20,7 +20,7 @@ on_page 2 | diff - bindings/rust/examples/club.rs
 rustc --edition 2021 -O -L dependency=target/oracle --extern ordered_multimap=target/oracle/libordered_multimap.rlib \
     -o "$out/club" bindings/migration/club.rs
 "$out/club" >"$out/club.crate"
-PRELGAMMO_STATICLIB=$PWD/$out/libexports.a cargo run -q --offline --manifest-path bindings/rust/Cargo.toml \
+PRELGAMMO_STATICLIB=$PWD/$out/libprelgammo.a cargo run -q --offline --manifest-path bindings/rust/Cargo.toml \
     --example club >"$out/club.package"
 cat "$out/club.package"
 diff "$out/club.crate" "$out/club.package"

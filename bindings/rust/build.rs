@@ -1,5 +1,4 @@
-//! Has the library proved and built by `rt staticlib exports` at the repository's root, or takes the one that
-//! PRELGAMMO_STATICLIB names, and links it.
+//! Has the library proved and built by bindings/library.sh, or takes the one that PRELGAMMO_STATICLIB names, and links it.
 
 use std::path::{Path, PathBuf};
 use std::process::Command;
@@ -12,11 +11,11 @@ fn main() {
         None => prove(&root()),
     };
     let out = PathBuf::from(env::var_os("OUT_DIR").expect("cargo sets OUT_DIR"));
-    if let Err(error) = fs::copy(&library, out.join("libexports.a")) {
+    if let Err(error) = fs::copy(&library, out.join("libprelgammo.a")) {
         panic!("{}: {error}", library.display());
     }
     println!("cargo:rustc-link-search=native={}", out.display());
-    println!("cargo:rustc-link-lib=static=exports");
+    println!("cargo:rustc-link-lib=static=prelgammo");
 }
 
 fn root() -> PathBuf {
@@ -29,15 +28,15 @@ fn ready(library: PathBuf) -> PathBuf {
     library
 }
 
-// Only crates that have changed since they were last proved are proved again, and `exports` itself.
+// Only crates that have changed since they were last proved are proved again, and the two that make up the library.
 fn prove(root: &Path) -> PathBuf {
     println!("cargo:rerun-if-changed={}", root.join("crates").display());
     println!("cargo:rerun-if-changed={}", root.join("crates.txt").display());
-    match Command::new("rt").args(["staticlib", "exports"]).current_dir(root).status() {
-        Ok(status) if status.success() => root.join("target/staticlib/libexports.a"),
-        Ok(status) => panic!("rt staticlib exports: {status}"),
-        Err(error) => {
-            panic!("rt, the Rattle kit's command: {error}; PRELGAMMO_STATICLIB may name a libexports.a instead")
-        }
+    match Command::new("sh").arg("bindings/library.sh").current_dir(root).status() {
+        Ok(status) if status.success() => root.join("target/bindings/libprelgammo.a"),
+        Ok(status) => panic!(
+            "bindings/library.sh: {status}; it needs rt, the Rattle kit's command. PRELGAMMO_STATICLIB may name a libprelgammo.a instead"
+        ),
+        Err(error) => panic!("sh: {error}"),
     }
 }

@@ -1,4 +1,4 @@
-// The port's C functions (crate exports), its records as C has them, and a map of the port on which calls are made one by one.
+// The port's C functions (crates exports and changing), its records as C has them, and a map of the port on which calls are made one by one.
 //
 // A record of more than two words comes back through a pointer that is passed first (System V, amd64). A reply holds a whole
 // map, so the functions that give one are declared here with that pointer: the reply is written where it is to stand, where
@@ -61,8 +61,8 @@ extern "C" {
     ) -> u64;
     fn om_new(map: *mut Map);
     fn om_well_linked(m: Map) -> u64;
-    fn om_append(reply: *mut Reply, m: Map, k: u64, v: u64);
-    fn om_insert(reply: *mut Reply, m: Map, k: u64, v: u64);
+    fn om_post(map: *mut Map, m: Map, k: u64, v: u64, over: bool, answer: *mut [u64; 4]);
+    fn om_pop(map: *mut Map, m: Map, front: bool, answer: *mut [u64; 4]);
     fn om_insert_all(reply: *mut Reply, m: Map, k: u64, v: u64, out: *mut u64, len: usize);
     fn om_remove(reply: *mut Reply, m: Map, k: u64);
     fn om_remove_all(reply: *mut Reply, m: Map, k: u64, out: *mut u64, len: usize);
@@ -70,8 +70,6 @@ extern "C" {
     fn om_occupied_insert(reply: *mut Reply, m: Map, k: u64, v: u64);
     fn om_occupied_remove_entry(reply: *mut Reply, m: Map, k: u64);
     fn om_vacant_insert(reply: *mut Reply, m: Map, k: u64, v: u64);
-    fn om_pop_front(reply: *mut Reply, m: Map);
-    fn om_pop_back(reply: *mut Reply, m: Map);
     fn om_retain(reply: *mut Reply, m: Map, marks: *const u8, len: usize);
     fn om_pack_to(reply: *mut Reply, m: Map, members: u64, rounds: u64);
     fn om_clear(reply: *mut Reply, m: Map);
@@ -125,14 +123,22 @@ impl PortMap {
         self.now.answer
     }
 
+    // The same by a call that gives the map back alone and writes the answer's numbers.
+    fn change_one(&mut self, call: impl FnOnce(*mut Map, &Map, *mut [u64; 4])) -> [u64; 4] {
+        let next = &mut *self.next;
+        call(&mut next.map, &self.now.map, &mut next.answer);
+        std::mem::swap(&mut self.now, &mut self.next);
+        self.now.answer
+    }
+
     // Makes any call with its lent slices. The four numbers of its answer.
     pub fn call(&mut self, call: &Call, out: &mut [u64], out2: &mut [u64]) -> [u64; 4] {
         let (k, v) = (call.k, call.v);
         // each pointer and length are those of one slice, and the slices do not overlap
         unsafe {
             match call.op {
-                Op::Append => self.change(|reply, map| om_append(reply, *map, k, v)),
-                Op::Insert => self.change(|reply, map| om_insert(reply, *map, k, v)),
+                Op::Append => self.change_one(|next, map, answer| om_post(next, *map, k, v, false, answer)),
+                Op::Insert => self.change_one(|next, map, answer| om_post(next, *map, k, v, true, answer)),
                 Op::InsertAll => {
                     self.change(|reply, map| om_insert_all(reply, *map, k, v, out.as_mut_ptr(), out.len()))
                 }
@@ -142,8 +148,8 @@ impl PortMap {
                 Op::OccupiedInsert => self.change(|reply, map| om_occupied_insert(reply, *map, k, v)),
                 Op::OccupiedRemoveEntry => self.change(|reply, map| om_occupied_remove_entry(reply, *map, k)),
                 Op::VacantInsert => self.change(|reply, map| om_vacant_insert(reply, *map, k, v)),
-                Op::PopFront => self.change(|reply, map| om_pop_front(reply, *map)),
-                Op::PopBack => self.change(|reply, map| om_pop_back(reply, *map)),
+                Op::PopFront => self.change_one(|next, map, answer| om_pop(next, *map, true, answer)),
+                Op::PopBack => self.change_one(|next, map, answer| om_pop(next, *map, false, answer)),
                 Op::Retain => self.change(|reply, map| om_retain(reply, *map, call.marks.as_ptr(), call.marks.len())),
                 Op::PackTo => self.change(|reply, map| om_pack_to(reply, *map, k, v)),
                 Op::Clear => self.change(|reply, map| om_clear(reply, *map)),

@@ -62,5 +62,5 @@ impl Answer {
 
 // No contract allows it, so another library than the one of this repository must have been linked.
 fn unexpected(numbers: [u64; 4]) -> ! {
-    panic!("libexports.a gave {numbers:?}, which is no answer of this call")
+    panic!("libprelgammo.a gave {numbers:?}, which is no answer of this call")
 }

@@ -1,4 +1,4 @@
-// The functions of libexports.a, and the only unsafe code of this package.
+// The functions of libprelgammo.a, and the only unsafe code of this package.
 #![allow(unsafe_code)]
 
 use crate::answer::Answer;
@@ -47,10 +47,11 @@ const _: () = assert!(size_of::<Record>() == 24_096 && size_of::<Reply>() == 24_
 
 // Every function but om_new, om_well_linked and om_read_image asks that its map is well-linked. A slice passes as a
 // pointer and a length. A record that is too large for registers is given back by way of a pointer that the caller
-// passes before all else. C leaves it to the compiler, `om_reply om_append(ListOrderedMultimap m, ..)`; here it is
-// named, so that the new map is written to its box and not to the stack first.
+// passes before all else. C leaves it to the compiler, `om_reply om_remove(ListOrderedMultimap m, ..)`; here it is
+// named, so that the new map is written to its box and not to the stack first. om_post and om_pop give back the map
+// alone and write their answer's numbers.
 #[cfg(not(all(unix, target_arch = "x86_64", target_pointer_width = "64")))]
-compile_error!("libexports.a and the way of giving records back are those of x86-64 under Unix");
+compile_error!("libprelgammo.a and the way of giving records back are those of x86-64 under Unix");
 
 extern "C" {
     fn om_new(map: *mut Record);
@@ -58,8 +59,9 @@ extern "C" {
     fn om_read_image(reply: *mut Reply, bytes: *const u8, len: usize);
     fn om_write_image(m: Record, out: *mut u8, len: usize) -> Said;
 
-    fn om_append(reply: *mut Reply, m: Record, k: u64, v: u64);
-    fn om_insert(reply: *mut Reply, m: Record, k: u64, v: u64);
+    fn om_post(map: *mut Record, m: Record, k: u64, v: u64, over: bool, answer: *mut [u64; 4]);
+    fn om_pop(map: *mut Record, m: Record, front: bool, answer: *mut [u64; 4]);
+
     fn om_insert_all(reply: *mut Reply, m: Record, k: u64, v: u64, out: *mut u64, len: usize);
     fn om_remove(reply: *mut Reply, m: Record, k: u64);
     fn om_remove_all(reply: *mut Reply, m: Record, k: u64, out: *mut u64, len: usize);
@@ -67,8 +69,6 @@ extern "C" {
     fn om_occupied_insert(reply: *mut Reply, m: Record, k: u64, v: u64);
     fn om_occupied_remove_entry(reply: *mut Reply, m: Record, k: u64);
     fn om_vacant_insert(reply: *mut Reply, m: Record, k: u64, v: u64);
-    fn om_pop_front(reply: *mut Reply, m: Record);
-    fn om_pop_back(reply: *mut Reply, m: Record);
     fn om_retain(reply: *mut Reply, m: Record, marks: *const u8, len: usize);
     fn om_pack_to(reply: *mut Reply, m: Record, members: u64, rounds: u64);
     fn om_clear(reply: *mut Reply, m: Record);
@@ -99,6 +99,15 @@ macro_rules! change {
     ($map:ident, $function:ident($($argument:expr),*)) => {{
         let reply: *mut Reply = &mut *$map.reply;
         unsafe { $function(reply, (*reply).map, $($argument),*) };
+        Answer($map.reply.answer)
+    }};
+}
+
+// The same of one that gives the map back alone and writes the answer's numbers.
+macro_rules! change_one {
+    ($map:ident, $function:ident($($argument:expr),*)) => {{
+        let reply: *mut Reply = &mut *$map.reply;
+        unsafe { $function(&raw mut (*reply).map, (*reply).map, $($argument,)* &raw mut (*reply).answer) };
         Answer($map.reply.answer)
     }};
 }
@@ -145,11 +154,11 @@ impl Map {
     }
 
     pub fn append(&mut self, k: u64, v: u64) -> Answer {
-        change!(self, om_append(k, v))
+        change_one!(self, om_post(k, v, false))
     }
 
     pub fn insert(&mut self, k: u64, v: u64) -> Answer {
-        change!(self, om_insert(k, v))
+        change_one!(self, om_post(k, v, true))
     }
 
     pub fn insert_all(&mut self, k: u64, v: u64, out: &mut [u64]) -> Answer {
@@ -181,11 +190,11 @@ impl Map {
     }
 
     pub fn pop_front(&mut self) -> Answer {
-        change!(self, om_pop_front())
+        change_one!(self, om_pop(true))
     }
 
     pub fn pop_back(&mut self) -> Answer {
-        change!(self, om_pop_back())
+        change_one!(self, om_pop(false))
     }
 
     pub fn retain(&mut self, marks: &[u8]) -> Answer {
