@@ -33,7 +33,8 @@ port=
 if grep -q '^exports:' crates.txt; then
     rt staticlib exports
     rt staticlib changing
-    port="--cfg port -L native=target/staticlib -l static=exports -l static=changing"
+    rt staticlib posting
+    port="--cfg port -L native=target/staticlib -l static=exports -l static=changing -l static=posting"
 else
     echo "the port is not linked: crates.txt has no crate exports"
 fi

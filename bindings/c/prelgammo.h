@@ -1,5 +1,5 @@
-/* The proved map from C: the functions of libprelgammo.a (bindings/library.sh makes it of the crates exports and changing), for
- * x86-64.
+/* The proved map from C: the functions of libprelgammo.a (bindings/library.sh makes it of the crates exports, changing
+ * and posting), for x86-64.
  *
  * A map passes by value. Every function that takes one, om_well_linked alone excepted, asks that it is well-linked:
  * that it came from one of these functions, or that om_well_linked says 1 of it.

@@ -1,4 +1,5 @@
-// The port's C functions (crates exports and changing), its records as C has them, and a map of the port on which calls are made one by one.
+// The port's C functions (crates exports, changing and posting), its records as C has them, and a map of the port on which calls
+// are made one by one.
 //
 // A record of more than two words comes back through a pointer that is passed first (System V, amd64). A reply holds a whole
 // map, so the functions that give one are declared here with that pointer: the reply is written where it is to stand, where

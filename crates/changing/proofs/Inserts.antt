@@ -1,4 +1,4 @@
--- The steps of `insert` and `insert_all`. Assumes nothing.
+-- The step of `insert_all`, by that of `insert`. Assumes nothing.
 use Prim.Native.Nat.{ℕ, _+_, _≤_, _<_}
 use mathlib.Core.Path.{_≡_, refl, sym, ap, _∙_, subst}
 use mathlib.Core.Bool.{Bool, true, false}
@@ -6,10 +6,10 @@ use mathlib.Core.List.{List, [], map}
 use borrow.Author.Tests.{lt-ltb, le-ltb}
 use lib.ListN.{length}
 use Rattle.steps.specs.State as St
-use Rattle.steps.specs.State.{State, rounds, others, add, replace, full, crowded, maxRounds, maxMembers}
-use Rattle.steps.specs.Call.{Answer, Outcome, refused, none, round, insert, insert-all}
+use Rattle.steps.specs.State.{State, rounds, replace, full, crowded}
+use Rattle.steps.specs.Call.{Answer, Outcome, refused, none, insert, insert-all}
 use Rattle.steps.specs.Call as C
-use Rattle.steps.specs.Step.{step, checks, act, say, write, over, short, first}
+use Rattle.steps.specs.Step.{step, checks, act, say, write, over, short}
 use Rattle.steps.specs.Accounting.{isRefused}
 use Rattle.steps.specs.Trace.{Does}
 use Rattle.steps.specs.Coded.{coded}
@@ -19,53 +19,35 @@ use Rattle.links.specs.Path.{walk}
 use Rattle.multimap.specs.Map.{at, valueAt, pairs, stateOf}
 use Rattle.multimap.specs.WellLinked.{WellLinked, linked}
 use Rattle.multimap.specs.declared.ListOrderedMultimap.{ListOrderedMultimap}
-use Rattle.multimap.proofs.States.{Unknown, is-full, not-full, is-crowded, not-crowded}
-use Rattle.multimap.proofs.Records.{Member, first-round}
-use Rattle.changing.specs.Adding.{AddedTo, Posted}
-use Rattle.changing.specs.Strike.{Emptied}
+use Rattle.multimap.proofs.States.{Unknown}
+use Rattle.multimap.proofs.Records.{Member}
+use Rattle.posting.proofs.Inserts.{step-full, step-crowded, step-known, step-new}
 use Rattle.changing.specs.InsertingAnswer.{insertedAllFrom}
 
--- ---- the steps, case by case
+-- ---- the step, case by case
 
-module _ (k v : ℕ) (s : State) where
-  pub step-full : St.present k s ≡ false → full s ≡ true → step (insert k v) s ≡ (say (refused 1), s)
+module _ (k v : ℕ) (s : State) (out : List ℕ) where
+  step-all-full : St.present k s ≡ false → full s ≡ true → step (insert-all k v out) s ≡ (write (refused 1) out, s)
   unfolding step checks
-  step-full p f = rw (p, f)
+  step-all-full p f = rw (p, f)
 
-  pub step-crowded : St.present k s ≡ false → full s ≡ false → crowded s ≡ true → step (insert k v) s ≡ (say (refused 2), s)
+  step-all-crowded : St.present k s ≡ false → full s ≡ false → crowded s ≡ true → step (insert-all k v out) s ≡ (write (refused 2) out, s)
   unfolding step checks
-  step-crowded p f c = rw (p, f, c)
+  step-all-crowded p f c = rw (p, f, c)
 
-  pub step-known : St.present k s ≡ true → step (insert k v) s ≡ (say (first (rounds k (s .pairs))), replace k v s)
+  step-all-short : St.present k s ≡ true → short out (rounds k (s .pairs)) ≡ true → step (insert-all k v out) s ≡ (write (refused 3) out, s)
+  unfolding step checks
+  step-all-short p h = rw (p, h)
+
+  step-all-known : St.present k s ≡ true → short out (rounds k (s .pairs)) ≡ false
+      → step (insert-all k v out) s ≡ (write (C.count (length (rounds k (s .pairs)))) (over (rounds k (s .pairs)) out), replace k v s)
   unfolding step checks act
-  step-known p = rw (p, p)
+  step-all-known p h = rw (p, h, p)
 
-  pub step-new : St.present k s ≡ false → full s ≡ false → crowded s ≡ false → step (insert k v) s ≡ (say (first (rounds k (s .pairs))), replace k v s)
+  step-all-new : St.present k s ≡ false → full s ≡ false → crowded s ≡ false
+      → step (insert-all k v out) s ≡ (write (C.count (length (rounds k (s .pairs)))) (over (rounds k (s .pairs)) out), replace k v s)
   unfolding step checks act
-  step-new p f c = rw (p, f, c, p)
-
-  module _ (out : List ℕ) where
-    step-all-full : St.present k s ≡ false → full s ≡ true → step (insert-all k v out) s ≡ (write (refused 1) out, s)
-    unfolding step checks
-    step-all-full p f = rw (p, f)
-
-    step-all-crowded : St.present k s ≡ false → full s ≡ false → crowded s ≡ true → step (insert-all k v out) s ≡ (write (refused 2) out, s)
-    unfolding step checks
-    step-all-crowded p f c = rw (p, f, c)
-
-    step-all-short : St.present k s ≡ true → short out (rounds k (s .pairs)) ≡ true → step (insert-all k v out) s ≡ (write (refused 3) out, s)
-    unfolding step checks
-    step-all-short p h = rw (p, h)
-
-    step-all-known : St.present k s ≡ true → short out (rounds k (s .pairs)) ≡ false
-        → step (insert-all k v out) s ≡ (write (C.count (length (rounds k (s .pairs)))) (over (rounds k (s .pairs)) out), replace k v s)
-    unfolding step checks act
-    step-all-known p h = rw (p, h, p)
-
-    step-all-new : St.present k s ≡ false → full s ≡ false → crowded s ≡ false
-        → step (insert-all k v out) s ≡ (write (C.count (length (rounds k (s .pairs)))) (over (rounds k (s .pairs)) out), replace k v s)
-    unfolding step checks act
-    step-all-new p f c = rw (p, f, c, p)
+  step-all-new p f c = rw (p, f, c, p)
 
 -- ---- the map
 
@@ -76,23 +58,6 @@ module _ (k v : ℕ) (m : ListOrderedMultimap) (g : WellLinked m) where
     insert-all-short out e =
         does-refuse linked (insert-all k v out) m 3 g
         (step-all-short k v (stateOf m) out (u .present) (lt-ltb (length out) (length (rounds k (pairs m))) (rw (u .many) e)))
-
-    module _ (o : ListOrderedMultimap) (d : Emptied m x o) (r : ListOrderedMultimap) (a : AddedTo o x v r) where
-      number : at (o .keys) x ≡ k
-      number = ap (λ (l : List ℕ). at l x) (d .keys) ∙ u .number
-
-      left : pairs o ≡ others k (pairs m)
-      left = d .pairs ∙ ap (λ (n : ℕ). others n (pairs m)) (u .number)
-
-      state : stateOf r ≡ replace k v (stateOf m)
-      state = rw (a .pairs, a .members, a .taken, number, left, d .members, d .taken, u .present)
-
-      pub insert-known : Does linked (insert k v) m (say (round (at (m .values) (valueAt (m .«next_index») (1024 + x))))) r
-      insert-known =
-          let h : ℕ = valueAt (m .«next_index») (1024 + x) in
-          let e : first (rounds k (pairs m)) ≡ round (at (m .values) h) = first-round m g k x u in
-          does-change linked (insert k v) m (say (round (at (m .values) h))) (replace k v (stateOf m)) r refl refl
-          (step-known k v (stateOf m) (u .present) ∙ rw e) state (a .linked)
 
     -- after `insert` the map is what `insert_all` leaves
     pub insert-all-known : (o : Outcome) (r : ListOrderedMultimap) → Does linked (insert k v) m o r → (out last : List ℕ) → at (m .length) x ≤ length out
@@ -109,25 +74,7 @@ module _ (k v : ℕ) (m : ListOrderedMultimap) (g : WellLinked m) where
 
   -- no member has it
   module _ (p : ℕ) (u : Unknown m k p) where
-    replaced : replace k v (stateOf m) ≡ add k v (stateOf m)
-    replaced = rw (u .nobody .others)
-
-    module _ (full : maxRounds ≤ m .«values_len») where
-      pub insert-full : Does linked (insert k v) m (say (refused 1)) m
-      insert-full = does-refuse linked (insert k v) m 1 g (step-full k v (stateOf m) (u .nobody .absent) (is-full m full))
-
-    module _ (room : m .«values_len» < maxRounds) where
-      module _ (many : maxMembers ≤ m .«keys_len») where
-        pub insert-crowded : Does linked (insert k v) m (say (refused 2)) m
-        insert-crowded = does-refuse linked (insert k v) m 2 g (step-crowded k v (stateOf m) (u .nobody .absent) (not-full m room) (is-crowded m many))
-
-      module _ (spare : m .«keys_len» < maxMembers) (r : ListOrderedMultimap) (a : Posted m k v r) where
-        pub insert-new : Does linked (insert k v) m (say none) r
-        insert-new =
-            does-change linked (insert k v) m (say none) (replace k v (stateOf m)) r refl refl
-            (step-new k v (stateOf m) (u .nobody .absent) (not-full m room) (not-crowded m spare) ∙ rw (u .nobody .rounds)) (a .state ∙ sym replaced) (a .linked)
-
-    -- the same of `insert_all`, by what `insert` has told
+    -- by what `insert` has told
     module _ (out : List ℕ) (r : ListOrderedMultimap) (ns : List ℕ) (t : Told linked (insert k v) m r [] [] ns) where
       abbrev Done : List ℕ → ListOrderedMultimap → Type 0
       Done l y = Does linked (insert-all k v out) m (write (insertedAllFrom l) out) y

@@ -19,7 +19,7 @@ use Rattle.multimap.specs.Map.{at, keyAt, pairAt, pairs, members, roundsOf, mem
 use Rattle.multimap.specs.WellLinked.{WellLinked}
 use Rattle.multimap.specs.declared.ListOrderedMultimap.{ListOrderedMultimap}
 use Rattle.multimap.proofs.Records.{filter-map, same-number}
-use Rattle.changing.specs.Strike.{Struck}
+use Rattle.posting.specs.Strike.{Struck}
 use Rattle.changing.specs.Sweep.{Sound, Swept}
 
 -- a member has a pair exactly where its record has a place

@@ -1,9 +1,4 @@
 -- Laws that belong to no one function.
-pub mod Joins
-pub mod Adds
-pub mod Posts
-pub mod Stretches
-pub mod Strikes
 pub mod Sweeps
 pub mod Leaving
 pub mod Records
@@ -12,4 +7,3 @@ pub mod Pops
 pub mod Retains
 pub mod Inserts
 pub mod Tells
-pub mod Posting

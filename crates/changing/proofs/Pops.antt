@@ -31,12 +31,12 @@ use Rattle.multimap.specs.WellLinked.{WellLinked, linked}
 use Rattle.multimap.specs.declared.ListOrderedMultimap.{ListOrderedMultimap}
 use Rattle.multimap.proofs.Stores.{map-append, Sized}
 use Rattle.changing.proofs.Tells.{told-does}
-use Rattle.changing.specs.Strike.{Stretch, Struck, RoundPlace}
+use Rattle.posting.specs.Strike.{Stretch, Struck, RoundPlace}
 use Rattle.changing.specs.Sweep.{idle, Sound, Sweepable, Swept}
 use Rattle.changing.specs.RemovingAnswer.{poppedOf, poppedFrom, popOf, rest, PoppedAt}
 use Rattle.changing.specs.declared.removing.Popped.{Popped}
 use Rattle.changing.specs.declared.removing.Popped.the-variants as A
-use Rattle.changing.proofs.Strikes as S
+use Rattle.posting.proofs.Strikes as S
 use Rattle.changing.proofs.Sweeps as W
 use Rattle.changing.proofs.Leaving.{has-size, member-still, length-now, struck-sound, left-linked, left-state, all-have, leaves-one}
 

@@ -25,7 +25,7 @@ use Rattle.multimap.specs.Map.{at, keyAt, valueAt, pairAt, pairs, roundsOf, mem
 use Rattle.multimap.specs.WellLinked.{WellLinked, linked}
 use Rattle.multimap.specs.declared.ListOrderedMultimap.{ListOrderedMultimap}
 use Rattle.multimap.proofs.Stores.{length-pairs}
-use Rattle.changing.specs.Strike.{chosen, visited, Stretch, Struck}
+use Rattle.posting.specs.Strike.{chosen, visited, Stretch, Struck}
 use Rattle.changing.specs.Sweep.{idle, Sweepable, Swept}
 use Rattle.changing.proofs.Leaving.{struck-sound, left-linked, left-state, all-have}
 

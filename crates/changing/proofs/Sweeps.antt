@@ -22,7 +22,7 @@ use Rattle.index.proofs.Without.{without-mem, mem-without}
 use Rattle.multimap.specs.Map.{at, keyAt, membersOf, linksOf}
 use Rattle.multimap.specs.declared.ListOrderedMultimap.{ListOrderedMultimap}
 use Rattle.multimap.proofs.Stores.{key-set, key-set₂, Sized, places-eq, links-eq, mem-count, count-mem}
-use Rattle.changing.proofs.Stretches.{first-of, at-next, split-next, split-past}
+use Rattle.posting.proofs.Stretches.{first-of, at-next, split-next, split-past}
 use Rattle.changing.specs.Sweep.{passed, idle, Sound, Sweepable, MembersOnly, Swept}
 
 -- ---- the stores of a turn

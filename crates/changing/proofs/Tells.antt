@@ -15,8 +15,8 @@ use Rattle.multimap.specs.WellLinked.{linked}
 use Rattle.multimap.specs.declared.ListOrderedMultimap.{ListOrderedMultimap}
 use Rattle.changing.specs.AddingAnswer.{addedFrom}
 use Rattle.changing.specs.InsertingAnswer.{insertedFrom}
-use Rattle.changing.proofs.Posts as P
-use Rattle.changing.proofs.Inserts as I
+use Rattle.posting.proofs.Posts as P
+use Rattle.posting.proofs.Inserts as I
 
 -- the outcome is the answer that f finds in its numbers, and nothing is written
 abbrev Tells : (List ℕ → Answer) → (Outcome × State) → Type 0

@@ -1,11 +1,10 @@
 -- Document 01's answer for each case of what an added round answers.
 use Prim.Native.Nat.{ℕ}
-use mathlib.Core.Bool.{Bool, true, false}
 use mathlib.Core.List.{List}
 use lib.Dec.{eqb}
 use lib.ListN.{getD}
 use Rattle.links.specs.Path.{pick}
-use Rattle.steps.specs.Call.{Call, Answer, append, insert, present, refused, round, none}
+use Rattle.steps.specs.Call.{Answer, present, refused}
 use Rattle.changing.specs.declared.adding.Added.{Added}
 use Rattle.changing.specs.declared.adding.Added.the-variants.{Present, Full, Crowded}
 
@@ -21,14 +20,3 @@ addedOf Crowded = refused 2
 -- what the numbers of an answer of `append` tell
 abbrev pub addedFrom : List ℕ → Answer
 addedFrom ns = pick (eqb (getD ns 0 0) 5) (present (eqb (getD ns 1 0) 1)) (refusalFrom ns)
-
--- `append`, or `insert`, which lets the member's record make way
-abbrev pub posting : Bool → ℕ → ℕ → Call
-posting false k v = append k v
-posting true k v = insert k v
-
--- what it answers where it is not refused: whether the member was known, or the first round of its record
-abbrev pub postedOf : Bool → Bool → ℕ → Answer
-postedOf false known v = present known
-postedOf true true v = round v
-postedOf true false v = none

@@ -1,8 +1,8 @@
 // The calls that put one round in the place of a member's record.
-use crate::adding::om_post;
 use index::Found;
 use multimap::ListOrderedMultimap;
 use multimap::ROUNDS;
+use posting::om_post;
 ghost use mathlib.Core.Path.{_≡_};
 ghost use Rattle.steps.specs.Call.{insert as inserting, insert-all as inserting-all};
 ghost use Rattle.steps.specs.Step.{say, write};

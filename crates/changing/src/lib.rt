@@ -4,44 +4,20 @@ use multimap::ListOrderedMultimap;
 use multimap::ROUNDS;
 use multimap::ValuePlace;
 ghost use mathlib.Core.Path.{_≡_};
-ghost use Prim.Native.Nat.{_+_, min};
 ghost use lib.Dec.{eqb};
-ghost use Rattle.links.specs.Path.{pick, walk};
-ghost use Rattle.steps.specs.Coded.{words};
-ghost use Rattle.steps.specs.State.{maxTaken};
+ghost use Rattle.links.specs.Path.{walk};
 ghost use mathlib.Core.Bool.{cond};
 ghost use mathlib.Core.List.{map};
 ghost use lib.ListN.{getD};
 ghost use Rattle.steps.specs.Step.{over};
 ghost use Rattle.multimap.specs.Map.{at, valueAt};
 ghost use Rattle.changing.specs.Copy.{Copies};
-ghost use Rattle.changing.specs.Strike.{chosen, visited, Stretch, Struck, MemberPlace, Emptied};
+ghost use Rattle.posting.specs.Strike.{chosen, visited, Stretch, Struck, MemberPlace, Emptied};
 ghost use Rattle.changing.specs.Sweep.{idle, Sweepable, Swept, RecordRemoved};
 
 pub mod adding;
 pub mod inserting;
 pub mod removing;
-
-// An answer's four numbers.
-fn tell(answer: &mut [u64; 4], a: u64, b: u64, c: u64, d: u64)
-    ensures { λ r. ⌜ now (answer .exit) ≡ words a b c d ⌝ }
-{
-    *answer = [a, b, c, d];
-}
-
-// x where a is b, else y.
-fn either(a: u16, b: u16, x: u16, y: u16) -> u16
-    ensures { λ r. ⌜ r ≡ pick (eqb a b) x y ⌝ }
-{
-    if a == b { x } else { y }
-}
-
-// One more round taken in.
-fn more(taken: u32) -> u32
-    ensures { λ r. ⌜ r ≡ min (taken + 1) maxTaken ⌝ }
-{
-    if taken < 4294967295 { taken + 1 } else { taken }
-}
 
 // x where the test holds, else y.
 fn choose(test: bool, x: u16, y: u16) -> u16

@@ -112,7 +112,7 @@ pub extern "C" fn om_pop(
 {
     let held = m.values_len;
     if held == 0 {
-        crate::tell(answer, 1, 0, 0, 0);
+        posting::tell(answer, 1, 0, 0, 0);
         return m;
     }
     let first = m.next_value[1024];
@@ -139,7 +139,7 @@ pub extern "C" fn om_pop(
     m.previous_index[after.0 as usize] = before;
     m.length[k] = n - 1;
     if 1 < n {
-        crate::tell(answer, 6, member, round, 0);
+        posting::tell(answer, 6, member, round, 0);
         return m;
     }
     // It was the member's last round.
@@ -153,7 +153,7 @@ pub extern "C" fn om_pop(
     m.previous_key[then.0 as usize] = ahead;
     m.keys_free = key;
     m.keys_len = m.keys_len - 1;
-    crate::tell(answer, 6, member, round, 1);
+    posting::tell(answer, 6, member, round, 1);
     m
 }
 

@@ -10,7 +10,7 @@ use Rattle.steps.specs.Call.{append, insert, remove, entry, occupied-append, oc
 use Rattle.steps.specs.Step.{step, checks, act, say, entryOf}
 use Rattle.steps.specs.Trace.{Kind, Does}
 use Rattle.steps.proofs.Doing.{does-refuse, does-change}
-use Rattle.changing.proofs.Posts.{step-full, step-crowded, step-known, step-new}
+use Rattle.posting.proofs.Posts.{step-full, step-crowded, step-known, step-new}
 
 -- two answers that are one
 same-answer : {a b : Answer} → say a ≡ say b → a ≡ b

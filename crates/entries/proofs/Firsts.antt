@@ -14,7 +14,7 @@ use Rattle.multimap.specs.Map.{pairs, stateOf}
 use Rattle.multimap.specs.WellLinked.{WellLinked, linked}
 use Rattle.multimap.specs.declared.ListOrderedMultimap.{ListOrderedMultimap}
 use Rattle.multimap.proofs.Records.{found, not-found, first-round}
-use Rattle.changing.proofs.Inserts.{step-known}
+use Rattle.posting.proofs.Inserts.{step-known}
 use Rattle.changing.proofs.Removes.{step-remove}
 
 module _ (m : ListOrderedMultimap) (g : WellLinked m) (k : ℕ) (p : St.present k (stateOf m) ≡ true) where

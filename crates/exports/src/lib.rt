@@ -1,6 +1,6 @@
 // Functions that Rust or C can link to: the calls of document 01, the image, the check of any record, and lists of calls. A map passes by value,
 // in the layout that #[repr(C)] gives its record, and an answer as the four numbers of `answers::numbers`. `append` and `insert` are om_post of
-// crate changing, and the pops om_pop: a function here that called them would copy the map once more.
+// crate posting, and the pops om_pop of crate changing: a function here that called them would copy the map once more.
 use answers::Answer;
 use image::Reading;
 use image::Written;

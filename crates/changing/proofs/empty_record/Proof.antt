@@ -2,7 +2,7 @@
 use Prim.Native.Nat.{_<_}
 use native.Mathlib.Omega.{arith}
 use borrow.Author.Needs.{needs}
-use Rattle.changing.proofs.Records.{its-member, record-stretch, emptied}
+use Rattle.posting.proofs.Records.{its-member, record-stretch, emptied}
 use Rattle.changing.proofs.empty_record.Statement.{statement}
 use Rattle.changing.proofs.empty_record.Tie as tie
 

@@ -9,8 +9,8 @@ use Rattle.links.specs.Places.{order}
 use Rattle.multimap.specs.Map.{at, roundsOf, linksOf}
 use Rattle.multimap.specs.declared.ListOrderedMultimap.{ListOrderedMultimap}
 use Rattle.multimap.proofs.Sizes.{sized}
-use Rattle.changing.specs.Strike.{Stretch}
-use Rattle.changing.proofs.Strikes.{Turned, turned-none, turned-all, turned-kept, turned-struck, q-in, onward-cond, Bounds, bounds}
+use Rattle.posting.specs.Strike.{Stretch}
+use Rattle.posting.proofs.Strikes.{Turned, turned-none, turned-all, turned-kept, turned-struck, q-in, onward-cond, Bounds, bounds}
 use Rattle.changing.proofs.strike.Statement.{statement}
 use Rattle.changing.proofs.strike.Tie as tie
 

@@ -8,8 +8,8 @@ use Rattle.steps.specs.Call.{none}
 use Rattle.multimap.specs.Map.{keyAt}
 use Rattle.multimap.proofs.Sizes.{sized}
 use Rattle.multimap.proofs.Stores.{Sized}
-use Rattle.changing.specs.Strike.{RoundPlace}
-use Rattle.changing.proofs.Strikes as S
+use Rattle.posting.specs.Strike.{RoundPlace}
+use Rattle.posting.proofs.Strikes as S
 use Rattle.changing.proofs.Sweeps as W
 use Rattle.changing.proofs.Pops.{pop-none, pop-round, pop-popped, round-bounds, member-bounds, stored-one, stored-both}
 use Rattle.changing.proofs.removing.om_pop.Statement.{statement}

@@ -4,8 +4,8 @@ use mathlib.Core.Path.{sym, _∙_}
 use native.Mathlib.Omega.{arith}
 use borrow.Author.Needs.{needs}
 use Rattle.multimap.proofs.Records.{Member, found, not-found, head-place}
-use Rattle.changing.specs.Strike.{MemberPlace}
-use Rattle.changing.proofs.Records.{place-of}
+use Rattle.posting.specs.Strike.{MemberPlace}
+use Rattle.posting.proofs.Records.{place-of}
 use Rattle.changing.proofs.Removes.{removed-none, removed}
 use Rattle.changing.proofs.removing.remove.Statement.{statement}
 use Rattle.changing.proofs.removing.remove.Tie as tie

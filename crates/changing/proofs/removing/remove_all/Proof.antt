@@ -4,8 +4,8 @@ use mathlib.Core.Path.{sym, _∙_}
 use native.Mathlib.Omega.{arith}
 use borrow.Author.Needs.{needs}
 use Rattle.multimap.proofs.Records.{Member, found, not-found}
-use Rattle.changing.specs.Strike.{MemberPlace}
-use Rattle.changing.proofs.Records.{place-of}
+use Rattle.posting.specs.Strike.{MemberPlace}
+use Rattle.posting.proofs.Records.{place-of}
 use Rattle.changing.proofs.Removes.{removed-all-none, removed-all-short, copies, removed-all}
 use Rattle.changing.proofs.removing.remove_all.Statement.{statement}
 use Rattle.changing.proofs.removing.remove_all.Tie as tie

@@ -1,4 +1,4 @@
--- `changing::adding::om_post` meets its contract, by the laws of proofs/Posting.antt. Assumes nothing.
+-- `posting::om_post` meets its contract, by the laws of proofs/Posting.antt. Assumes nothing.
 use Prim.Native.Nat.{ℕ, _+_, _-_, _≤_, _<_}
 use mathlib.Core.Path.{refl, sym, _∙_}
 use mathlib.Core.Logic.{⊎-elim}
@@ -16,15 +16,15 @@ use Rattle.multimap.proofs.Stores.{Sized}
 use Rattle.multimap.proofs.Sizes.{sized}
 use Rattle.multimap.proofs.Records.{Member, found, head-place}
 use Rattle.multimap.proofs.States.{Unknown, absent-at}
-use Rattle.changing.specs.Adding.{Ready, Joins}
-use Rattle.changing.specs.Strike.{chosen, visited, Stretch, Struck}
-use Rattle.changing.proofs.Joins.{members-ends, new-key-fits}
-use Rattle.changing.proofs.Adds.{key-fits, rounds-ends, tail-in, size-fits, place-fits, adds}
-use Rattle.changing.proofs.Posts.{joins-unknown}
-use Rattle.changing.proofs.Strikes.{Turned, turned-none, turned-all, turned-struck, q-in, Bounds, bounds}
-use Rattle.changing.proofs.Posting.{Settled, old, new, settled-as, settled-sized, new-member, settled-fits, stretch, ready, told, told-known-full, told-full, told-crowded, no-mark}
-use Rattle.changing.proofs.adding.om_post.Statement.{statement}
-use Rattle.changing.proofs.adding.om_post.Tie as tie
+use Rattle.posting.specs.Adding.{Ready, Joins}
+use Rattle.posting.specs.Strike.{chosen, visited, Stretch, Struck}
+use Rattle.posting.proofs.Joins.{members-ends, new-key-fits}
+use Rattle.posting.proofs.Adds.{key-fits, rounds-ends, tail-in, size-fits, place-fits, adds}
+use Rattle.posting.proofs.Posts.{joins-unknown}
+use Rattle.posting.proofs.Strikes.{Turned, turned-none, turned-all, turned-struck, q-in, Bounds, bounds}
+use Rattle.posting.proofs.Posting.{Settled, old, new, settled-as, settled-sized, new-member, settled-fits, stretch, ready, told, told-known-full, told-full, told-crowded, no-mark}
+use Rattle.posting.proofs.om_post.Statement.{statement}
+use Rattle.posting.proofs.om_post.Tie as tie
 
 abbrev Inv-loop : tie.InvT-loop
 Inv-loop k v over answer m₀ key known round end e at₀ size turns i₀ m at i =

@@ -18,7 +18,7 @@ use Rattle.multimap.specs.Map.{at, keyAt, valueAt, pairAt, pairs, members, roun
 use Rattle.multimap.specs.declared.ListOrderedMultimap.{ListOrderedMultimap}
 use Rattle.multimap.proofs.Stores.{Sized, map-same, map-append}
 use Rattle.multimap.proofs.Additions.{with-round, round-links, round-stored}
-use Rattle.changing.specs.Adding.{Ready, AddedTo}
+use Rattle.posting.specs.Adding.{Ready, AddedTo}
 
 module _ (m : ListOrderedMultimap) (key : ℕ) (g : Ready m key) where
   -- where the stores go

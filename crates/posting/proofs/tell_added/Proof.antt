@@ -1,8 +1,8 @@
--- `changing::adding::tell_added` meets its contract. Assumes nothing.
+-- `posting::tell_added` meets its contract. Assumes nothing.
 use borrow.Author.Tests.{not-true, not-false}
 use borrow.Author.Needs.{needs}
-use Rattle.changing.proofs.adding.tell_added.Statement.{statement}
-use Rattle.changing.proofs.adding.tell_added.Tie as tie
+use Rattle.posting.proofs.tell_added.Statement.{statement}
+use Rattle.posting.proofs.tell_added.Tie as tie
 
 tell-requires : tie.Need-tell-requires
 tell-requires c κs = search needs

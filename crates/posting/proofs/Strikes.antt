@@ -16,8 +16,8 @@ use Rattle.links.proofs.Chains.{in-record, record-once, own-member, cells-once,
 use Rattle.multimap.specs.Map.{at, keyAt, valueAt, roundsOf, membersOf, linksOf}
 use Rattle.multimap.specs.declared.ListOrderedMultimap.{ListOrderedMultimap}
 use Rattle.multimap.proofs.Stores.{at-set, value-set, value-set₂, Sized, places-eq, links-eq}
-use Rattle.changing.proofs.Stretches.{first-of, at-next, split-next, split-past}
-use Rattle.changing.specs.Strike.{course, onward, visited, chosen, Stretch, RoundsOnly, Struck}
+use Rattle.posting.proofs.Stretches.{first-of, at-next, split-next, split-past}
+use Rattle.posting.specs.Strike.{course, onward, visited, chosen, Stretch, RoundsOnly, Struck}
 
 -- ---- either course
 

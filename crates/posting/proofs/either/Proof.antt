@@ -1,7 +1,7 @@
--- `changing::either` meets its contract. Assumes nothing.
+-- `posting::either` meets its contract. Assumes nothing.
 use borrow.Author.Tests.{eq-eqb, ne-eqb}
-use Rattle.changing.proofs.either.Statement.{statement}
-use Rattle.changing.proofs.either.Tie as tie
+use Rattle.posting.proofs.either.Statement.{statement}
+use Rattle.posting.proofs.either.Tie as tie
 
 returns : tie.Need-returns
 returns c = rw (eq-eqb _ _ (c .if1 .taken))

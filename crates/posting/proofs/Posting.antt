@@ -24,13 +24,13 @@ use Rattle.multimap.proofs.Stores.{Sized}
 use Rattle.multimap.proofs.Records.{Member}
 use Rattle.multimap.proofs.States.{Unknown}
 use Rattle.multimap.proofs.Additions.{with-member}
-use Rattle.changing.specs.Adding.{Ready, AddedTo, Joins, Joined, Posted, lastKey}
-use Rattle.changing.specs.AddingAnswer.{posting, postedOf}
-use Rattle.changing.specs.Strike.{chosen, visited, Stretch, Struck, Emptied}
-use Rattle.changing.proofs.Joins.{joins, new-key-fits, last-now}
-use Rattle.changing.proofs.Records.{place-of, record-stretch, emptied}
-use Rattle.changing.proofs.Posts.{ready-known, joins-unknown, posted-known, posted-new, append-full, append-crowded, append-known, append-new}
-use Rattle.changing.proofs.Inserts.{insert-known, insert-full, insert-crowded, insert-new}
+use Rattle.posting.specs.Adding.{Ready, AddedTo, Joins, Joined, Posted, lastKey}
+use Rattle.posting.specs.Posting.{posting, postedOf}
+use Rattle.posting.specs.Strike.{chosen, visited, Stretch, Struck, Emptied}
+use Rattle.posting.proofs.Joins.{joins, new-key-fits, last-now}
+use Rattle.posting.proofs.Records.{place-of, record-stretch, emptied}
+use Rattle.posting.proofs.Posts.{ready-known, joins-unknown, posted-known, posted-new, append-full, append-crowded, append-known, append-new}
+use Rattle.posting.proofs.Inserts.{insert-known, insert-full, insert-crowded, insert-new}
 
 -- ---- no round makes way
 

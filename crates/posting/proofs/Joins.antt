@@ -21,7 +21,7 @@ use Rattle.multimap.specs.Map.{at, keyAt, pairAt, pairs, members, roundsOf, mem
 use Rattle.multimap.specs.declared.ListOrderedMultimap.{ListOrderedMultimap}
 use Rattle.multimap.proofs.Stores.{Sized, map-same, map-append, mem-count, count-mem}
 use Rattle.multimap.proofs.Additions.{with-member, member-links, member-stored}
-use Rattle.changing.specs.Adding.{Ready, Joins, Joined, lastKey}
+use Rattle.posting.specs.Adding.{Ready, Joins, Joined, lastKey}
 
 -- where the stores go
 pub members-ends : (m : ListOrderedMultimap) (k p : ℕ) → Joins m k p → (keyAt (m .«next_key») 256 ≤ 256) × (keyAt (m .«previous_key») 256 ≤ 256)

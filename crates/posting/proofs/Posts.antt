@@ -15,7 +15,7 @@ use Rattle.multimap.specs.declared.ListOrderedMultimap.{ListOrderedMultimap}
 use Rattle.multimap.proofs.Stores.{any-none}
 use Rattle.multimap.proofs.Records.{Member}
 use Rattle.multimap.proofs.States.{Unknown, is-full, not-full, is-crowded, not-crowded}
-use Rattle.changing.specs.Adding.{Ready, AddedTo, Joins, Joined, Posted, lastKey}
+use Rattle.posting.specs.Adding.{Ready, AddedTo, Joins, Joined, Posted, lastKey}
 
 module _ (m : ListOrderedMultimap) (k : ℕ) where
   -- a member is ready for a further round
