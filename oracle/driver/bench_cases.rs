@@ -113,6 +113,7 @@ fn many_rounds() -> Vec<Case> {
     let few = |name, timed| Case { name, aim: Aim::None, before: filled(), timed };
     let case = |name, before, timed| Case { name, aim: Aim::NoSlower, before, timed };
     let every_second = [0, 1].repeat(512);
+    let every_16th = [vec![0], vec![1; 15]].concat().repeat(64);
     let mut one = vec![1; 1024];
     one[512] = 0;
     let packing = Call::new(Op::PackTo, MAX_MEMBERS as u64, MAX_ROUNDS as u64);
@@ -124,6 +125,7 @@ fn many_rounds() -> Vec<Case> {
         case("remove_all, record of 1,000", long_record(), vec![Call::lending(Op::RemoveAll, 7, 0, 1000)]),
         case("insert_all, record of 1,000", long_record(), vec![Call::lending(Op::InsertAll, 7, 1, 1000)]),
         case("retain, 512 of 1,024 struck", full(), vec![Call::retain(every_second)]),
+        case("retain, 64 of 1,024 struck", full(), vec![Call::retain(every_16th)]),
         case("retain, 1 of 1,024 struck", full(), vec![Call::retain(one)]),
         case("retain, none of 1,024 struck", full(), repeated(20, |_| Call::retain(vec![1; 1024]))),
         case("pack_to, 1,024 rounds of 251 members", full(), vec![packing]),

@@ -1,4 +1,4 @@
--- A round is added to a map: what the stores of `add_round` make of it. Assumes nothing.
+-- A round is added to a map: what the stores of `om_post` make of it. Assumes nothing.
 use Prim.Native.Nat.{ℕ, _+_, _≤_, _<_, min}
 use mathlib.Core.Path.{_≡_, refl, sym, ap, _∙_, subst}
 use mathlib.Core.Logic.{_≢_}

@@ -1,4 +1,4 @@
--- A member joins a map: what the stores of `join` make of it. Assumes nothing.
+-- A member joins a map: what the stores of `om_post` make of it. Assumes nothing.
 use Prim.Native.Nat.{ℕ, _+_, _≤_, _<_}
 use mathlib.Core.Path.{_≡_, refl, sym, ap, _∙_, subst}
 use mathlib.Core.Logic.{_⊎_, inl, inr, _≢_, ⊎-elim}

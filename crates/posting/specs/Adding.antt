@@ -1,4 +1,4 @@
--- What the functions that let a member join and add a round require and ensure.
+-- A member joins, and a round is added at the back: what each asks of the map, and what it leaves.
 use Prim.Native.Nat.{ℕ, _+_, _<_, min}
 use mathlib.Core.Path.{_≡_}
 use mathlib.Core.Logic.{_≢_}
