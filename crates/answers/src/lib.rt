@@ -1,27 +1,10 @@
-// The answers of all calls brought to one type, and its four numbers.
-use changing::adding::Added;
-use changing::inserting::Inserted;
-use changing::inserting::InsertedAll;
-use changing::removing::Kept;
-use changing::removing::Popped;
-use entries::occupied_entry::Appended;
-use entries::occupied_entry::First;
-use multimap::Counted;
-use multimap::Got;
-use packing::Repacked;
-use reading::Entry;
+// The answer of every call, and its four numbers.
 ghost use mathlib.Core.Path.{_≡_};
 ghost use lib.ListN.{getD};
-ghost use Rattle.multimap.specs.Answers.{gotOf, countedOf};
-ghost use Rattle.reading.specs.Answers.{entryAnswerOf};
-ghost use Rattle.changing.specs.AddingAnswer.{addedOf};
-ghost use Rattle.changing.specs.InsertingAnswer.{insertedOf, insertedAllOf};
-ghost use Rattle.changing.specs.RemovingAnswer.{poppedOf, keptOf};
-ghost use Rattle.entries.specs.Answers.{appendedOf, firstOf, vacantOf};
-ghost use Rattle.packing.specs.Answer.{repackedOf};
+ghost use Rattle.steps.specs.Coded.{bit as bitOf, coded, decoded};
 ghost use Rattle.answers.specs.Answers.{answerOf};
-ghost use Rattle.steps.specs.Coded.{bit as bitOf, coded};
 
+// `Refused` has document 01's number of the refusal.
 pub enum Answer {
     Refused(u64),
     Nothing,
@@ -34,122 +17,29 @@ pub enum Answer {
     Vacant(u64),
 }
 
-pub fn added(a: Added) -> Answer
-    ensures { λ r. ⌜ answerOf r ≡ addedOf a ⌝ }
+// Writes the four numbers of an answer.
+pub fn tell(numbers: &mut [u64; 4], a: Answer)
+    ensures { λ _. ⌜ now (numbers .exit) ≡ coded (answerOf a) ⌝ }
 {
-    match a {
-        Added::Present(b) => Answer::Present(b),
-        Added::Full => Answer::Refused(1),
-        Added::Crowded => Answer::Refused(2),
-    }
+    *numbers = [word0(a), word1(a), word2(a), word3(a)];
 }
 
-pub fn inserted(a: Inserted) -> Answer
-    ensures { λ r. ⌜ answerOf r ≡ insertedOf a ⌝ }
+// Reads the answer of four numbers. Numbers of no answer are read as `Nothing`.
+pub fn read(numbers: [u64; 4]) -> Answer
+    ensures { λ r. ⌜ answerOf r ≡ decoded numbers ⌝ }
 {
-    match a {
-        Inserted::Nothing => Answer::Nothing,
-        Inserted::Round(v) => Answer::Round(v),
-        Inserted::Full => Answer::Refused(1),
-        Inserted::Crowded => Answer::Refused(2),
-    }
-}
-
-pub fn inserted_all(a: InsertedAll) -> Answer
-    ensures { λ r. ⌜ answerOf r ≡ insertedAllOf a ⌝ }
-{
-    match a {
-        InsertedAll::Count(n) => Answer::Count(n as u64),
-        InsertedAll::Full => Answer::Refused(1),
-        InsertedAll::Crowded => Answer::Refused(2),
-        InsertedAll::Short => Answer::Refused(3),
-    }
-}
-
-pub fn got(a: Got) -> Answer
-    ensures { λ r. ⌜ answerOf r ≡ gotOf a ⌝ }
-{
-    match a {
-        Got::Nothing => Answer::Nothing,
-        Got::Round(v) => Answer::Round(v),
-    }
-}
-
-pub fn counted(a: Counted) -> Answer
-    ensures { λ r. ⌜ answerOf r ≡ countedOf a ⌝ }
-{
-    match a {
-        Counted::Count(n) => Answer::Count(n as u64),
-        Counted::Short => Answer::Refused(3),
-    }
-}
-
-pub fn popped(a: Popped) -> Answer
-    ensures { λ r. ⌜ answerOf r ≡ poppedOf a ⌝ }
-{
-    match a {
-        Popped::Nothing => Answer::Nothing,
-        Popped::Pair(k, v, gone) => Answer::Popped(k, v, gone),
-    }
-}
-
-pub fn kept(a: Kept) -> Answer
-    ensures { λ r. ⌜ answerOf r ≡ keptOf a ⌝ }
-{
-    match a {
-        Kept::Count(n) => Answer::Count(n as u64),
-        Kept::MarksCount => Answer::Refused(7),
-        Kept::MarkValue => Answer::Refused(8),
-    }
-}
-
-pub fn repacked(a: Repacked) -> Answer
-    ensures { λ r. ⌜ answerOf r ≡ repackedOf a ⌝ }
-{
-    match a {
-        Repacked::Done => Answer::Done,
-        Repacked::MembersBelow => Answer::Refused(4),
-        Repacked::RoundsBelow => Answer::Refused(5),
-        Repacked::Above => Answer::Refused(6),
-    }
-}
-
-pub fn appended(a: Appended) -> Answer
-    ensures { λ r. ⌜ answerOf r ≡ appendedOf a ⌝ }
-{
-    match a {
-        Appended::Done => Answer::Done,
-        Appended::Absent => Answer::Refused(9),
-        Appended::Full => Answer::Refused(1),
-    }
-}
-
-pub fn first(a: First) -> Answer
-    ensures { λ r. ⌜ answerOf r ≡ firstOf a ⌝ }
-{
-    match a {
-        First::Round(v) => Answer::Round(v),
-        First::Absent => Answer::Refused(9),
-    }
-}
-
-pub fn vacant(a: entries::vacant_entry::Inserted) -> Answer
-    ensures { λ r. ⌜ answerOf r ≡ vacantOf a ⌝ }
-{
-    match a {
-        entries::vacant_entry::Inserted::Done => Answer::Done,
-        entries::vacant_entry::Inserted::Present => Answer::Refused(10),
-        entries::vacant_entry::Inserted::Full => Answer::Refused(1),
-        entries::vacant_entry::Inserted::Crowded => Answer::Refused(2),
-    }
-}
-
-pub fn entry(a: Entry) -> Answer
-    ensures { λ r. ⌜ answerOf r ≡ entryAnswerOf a ⌝ }
-{
-    match a {
-        Entry::Occupied(n) => Answer::Occupied(n as u64),
-        Entry::Vacant(k) => Answer::Vacant(k),
+    let n = numbers[1];
+    match numbers[0] {
+        0 => Answer::Refused(n),
+        1 => Answer::Nothing,
+        2 => Answer::Done,
+        3 => Answer::Round(n),
+        4 => Answer::Count(n),
+        5 => Answer::Present(n == 1),
+        6 => Answer::Popped(n, numbers[2], numbers[3] == 1),
+        7 => Answer::Occupied(n),
+        8 => Answer::Vacant(n),
+        _ => Answer::Nothing,
     }
 }
 
@@ -225,11 +115,4 @@ fn word3(a: Answer) -> u64
         Answer::Occupied(_) => 0,
         Answer::Vacant(_) => 0,
     }
-}
-
-// The four numbers.
-pub fn numbers(a: Answer) -> [u64; 4]
-    ensures { λ r. ⌜ r ≡ coded (answerOf a) ⌝ }
-{
-    [word0(a), word1(a), word2(a), word3(a)]
 }

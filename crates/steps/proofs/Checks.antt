@@ -9,7 +9,8 @@ use lib.ListN.{length}
 use Rattle.steps.specs.State as St
 use Rattle.steps.specs.Lists.{last?}
 use Rattle.steps.specs.State.{State, Pair, full, crowded, absent, rounds}
-use Rattle.steps.specs.Call.{Call, lent, present, append, insert, insert-all, remove, remove-all, entry, occupied-append, occupied-insert, occupied-remove-entry, vacant-insert, pop-front, pop-back, retain, pack-to, clear, get, get-all, entry-len, contains-key, keys, keys-len, values-len, iter, taken}
+use Rattle.steps.specs.Call as C
+use Rattle.steps.specs.Call.{Call, lent, present}
 use Rattle.steps.specs.Step.{checks, refusal, refusing, first, entryOf, pop, act, settle, step, say, short}
 use Rattle.steps.specs.Accounting.{isRefused}
 
@@ -28,30 +29,30 @@ accepting-entry false k s = refl
 
 pub accepting : (c : Call) (s : State) → isRefused (act c s .0 .answer) ≡ false
 unfolding act
-accepting (append k v) s = refl
-accepting (insert k v) s = accepting-first (rounds k (s .pairs))
-accepting (insert-all k v out) s = refl
-accepting (remove k) s = accepting-first (rounds k (s .pairs))
-accepting (remove-all k out) s = refl
-accepting (entry k) s = accepting-entry (St.present k s) k s
-accepting (occupied-append k v) s = refl
-accepting (occupied-insert k v) s = accepting-first (rounds k (s .pairs))
-accepting (occupied-remove-entry k) s = accepting-first (rounds k (s .pairs))
-accepting (vacant-insert k v) s = refl
-accepting pop-front s = accepting-pop (head? (s .pairs)) (tail (s .pairs)) s
-accepting pop-back s = accepting-pop (last? (s .pairs)) (dropLast (s .pairs)) s
-accepting (retain ms) s = refl
-accepting (pack-to m n) s = refl
-accepting clear s = refl
-accepting (get k) s = accepting-first (rounds k (s .pairs))
-accepting (get-all k out) s = refl
-accepting (entry-len k) s = refl
-accepting (contains-key k) s = refl
-accepting (keys out) s = refl
-accepting keys-len s = refl
-accepting values-len s = refl
-accepting (iter ks vs) s = refl
-accepting taken s = refl
+accepting (C.append k v) s = refl
+accepting (C.insert k v) s = accepting-first (rounds k (s .pairs))
+accepting (C.insert-all k v out) s = refl
+accepting (C.remove k) s = accepting-first (rounds k (s .pairs))
+accepting (C.remove-all k out) s = refl
+accepting (C.entry k) s = accepting-entry (St.present k s) k s
+accepting (C.occupied-append k v) s = refl
+accepting (C.occupied-insert k v) s = accepting-first (rounds k (s .pairs))
+accepting (C.occupied-remove-entry k) s = accepting-first (rounds k (s .pairs))
+accepting (C.vacant-insert k v) s = refl
+accepting C.pop-front s = accepting-pop (head? (s .pairs)) (tail (s .pairs)) s
+accepting C.pop-back s = accepting-pop (last? (s .pairs)) (dropLast (s .pairs)) s
+accepting (C.retain ms) s = refl
+accepting (C.pack-to m n) s = refl
+accepting C.clear s = refl
+accepting (C.get k) s = accepting-first (rounds k (s .pairs))
+accepting (C.get-all k out) s = refl
+accepting (C.entry-len k) s = refl
+accepting (C.contains-key k) s = refl
+accepting (C.keys out) s = refl
+accepting C.keys-len s = refl
+accepting C.values-len s = refl
+accepting (C.iter ks vs) s = refl
+accepting C.taken s = refl
 
 -- a refused call leaves the slices and the state as they were
 pub refused-unchanged : (c : Call) (s : State) → isRefused (step c s .0 .answer) ≡ true → (step c s .0 .slices ≡ lent c) × (step c s .1 ≡ s)
@@ -65,54 +66,54 @@ refused-unchanged c s = go (refusal (checks c s))
 module _ (k v : ℕ) (s : State) where
   -- an OccupiedEntry call of an absent member is refused by 9, whatever else holds
   pub occupied-absent : absent k s ≡ true
-      → (step (occupied-append k v) s ≡ (refusing (occupied-append k v) 9, s))
-      × (step (occupied-insert k v) s ≡ (refusing (occupied-insert k v) 9, s))
-      × (step (occupied-remove-entry k) s ≡ (refusing (occupied-remove-entry k) 9, s))
+      → (step (C.occupied-append k v) s ≡ (refusing (C.occupied-append k v) 9, s))
+      × (step (C.occupied-insert k v) s ≡ (refusing (C.occupied-insert k v) 9, s))
+      × (step (C.occupied-remove-entry k) s ≡ (refusing (C.occupied-remove-entry k) 9, s))
   unfolding step checks
   occupied-absent h = (rw h refl, rw h refl, rw h refl)
 
   -- VacantEntry::insert of a present member by 10
-  pub vacant-present : St.present k s ≡ true → step (vacant-insert k v) s ≡ (refusing (vacant-insert k v) 10, s)
+  pub vacant-present : St.present k s ≡ true → step (C.vacant-insert k v) s ≡ (refusing (C.vacant-insert k v) 10, s)
   unfolding step checks
   vacant-present h = rw h refl
 
   -- on a full map 1 comes before 2
-  pub append-full : full s ≡ true → step (append k v) s ≡ (refusing (append k v) 1, s)
+  pub append-full : full s ≡ true → step (C.append k v) s ≡ (refusing (C.append k v) 1, s)
   unfolding step checks
   append-full f = rw f refl
 
   -- a new member is refused by 2 where 256 are held
-  pub append-crowded : full s ≡ false → St.present k s ≡ false → crowded s ≡ true → step (append k v) s ≡ (refusing (append k v) 2, s)
+  pub append-crowded : full s ≡ false → St.present k s ≡ false → crowded s ≡ true → step (C.append k v) s ≡ (refusing (C.append k v) 2, s)
   unfolding step checks
   append-crowded f p c = rw (f, p, c) refl
 
   -- a known member's append passes where there is room for the round, however many members there are
-  pub append-known : full s ≡ false → St.present k s ≡ true → step (append k v) s .0 ≡ say (present true)
+  pub append-known : full s ≡ false → St.present k s ≡ true → step (C.append k v) s .0 ≡ say (present true)
   unfolding step checks act
   append-known f p = rw (f, p, p) refl
 
   -- insert_all of a present member is refused by 3 or not at all: the old pairs make way first
   pub insert-all-present : (out : List ℕ) → St.present k s ≡ true
-      → refusal (checks (insert-all k v out) s) ≡ cond (short out (rounds k (s .pairs))) (some 3) none
+      → refusal (checks (C.insert-all k v out) s) ≡ cond (short out (rounds k (s .pairs))) (some 3) none
   unfolding checks
   insert-all-present out p = rw p refl
 
   -- and insert of a present member is never refused
-  pub insert-present : St.present k s ≡ true → refusal (checks (insert k v) s) ≡ none
+  pub insert-present : St.present k s ≡ true → refusal (checks (C.insert k v) s) ≡ none
   unfolding checks
   insert-present p = rw p refl
 
 module _ (s : State) where
   -- a wrong number of marks is refused by 7, whatever the marks are
-  pub retain-count : (marks : List ℕ) → eqb (length marks) (length (s .pairs)) ≡ false → step (retain marks) s ≡ (refusing (retain marks) 7, s)
+  pub retain-count : (marks : List ℕ) → eqb (length marks) (length (s .pairs)) ≡ false → step (C.retain marks) s ≡ (refusing (C.retain marks) 7, s)
   unfolding step checks
   retain-count marks h = rw h refl
 
   -- pack_to: 4 before 5 before 6
-  pub pack-members : (m n : ℕ) → ltb m (length (s .members)) ≡ true → step (pack-to m n) s ≡ (refusing (pack-to m n) 4, s)
+  pub pack-members : (m n : ℕ) → ltb m (length (s .members)) ≡ true → step (C.pack-to m n) s ≡ (refusing (C.pack-to m n) 4, s)
   unfolding step checks
   pack-members m n h = rw h refl
 
-  pub pack-rounds : (m n : ℕ) → ltb m (length (s .members)) ≡ false → ltb n (length (s .pairs)) ≡ true → step (pack-to m n) s ≡ (refusing (pack-to m n) 5, s)
+  pub pack-rounds : (m n : ℕ) → ltb m (length (s .members)) ≡ false → ltb n (length (s .pairs)) ≡ true → step (C.pack-to m n) s ≡ (refusing (C.pack-to m n) 5, s)
   unfolding step checks
   pack-rounds m n h i = rw (h, i) refl

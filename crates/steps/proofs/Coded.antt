@@ -3,10 +3,9 @@ use mathlib.Core.Path.{_≡_, refl, ap, sym, _∙_}
 use mathlib.Core.Bool.{true, false}
 use mathlib.Core.List.{List, [], _∷_}
 use Prim.Native.Nat.{ℕ}
-use lib.Dec.{eqb}
 use lib.ListN.{length, getD}
 use Rattle.steps.specs.Call.{Answer, refused, none, done, round, count, present, popped, occupied, vacant}
-use Rattle.steps.specs.Coded.{words, coded}
+use Rattle.steps.specs.Coded.{words, coded, decoded}
 
 pub coded-length : (a : Answer) → length (coded a) ≡ 4
 coded-length (refused n) = refl
@@ -34,35 +33,19 @@ coded-words a w x y z p q r s = rw (p, q, r, s) (whole a)
     whole (occupied n) = refl
     whole (vacant k) = refl
 
--- the answer of four numbers
-read-back : List ℕ → Answer
-read-back l =
-    getD
-    (refused (getD l 1 0)
-    ∷ none
-    ∷ done
-    ∷ round (getD l 1 0)
-    ∷ count (getD l 1 0)
-    ∷ present (eqb (getD l 1 0) 1)
-    ∷ popped (getD l 1 0) (getD l 2 0) (eqb (getD l 3 0) 1)
-    ∷ occupied (getD l 1 0)
-    ∷ vacant (getD l 1 0)
-    ∷ [])
-    (getD l 0 0) none
-
-read-back-coded : (a : Answer) → read-back (coded a) ≡ a
-unfolding read-back
-read-back-coded (refused n) = refl
-read-back-coded none = refl
-read-back-coded done = refl
-read-back-coded (round v) = refl
-read-back-coded (count n) = refl
-read-back-coded (present true) = refl
-read-back-coded (present false) = refl
-read-back-coded (popped k v true) = refl
-read-back-coded (popped k v false) = refl
-read-back-coded (occupied n) = refl
-read-back-coded (vacant k) = refl
+pub decoded-coded : (a : Answer) → decoded (coded a) ≡ a
+unfolding decoded
+decoded-coded (refused n) = refl
+decoded-coded none = refl
+decoded-coded done = refl
+decoded-coded (round v) = refl
+decoded-coded (count n) = refl
+decoded-coded (present true) = refl
+decoded-coded (present false) = refl
+decoded-coded (popped k v true) = refl
+decoded-coded (popped k v false) = refl
+decoded-coded (occupied n) = refl
+decoded-coded (vacant k) = refl
 
 pub coded-injective : (a b : Answer) → coded a ≡ coded b → a ≡ b
-coded-injective a b e = sym (read-back-coded a) ∙ ap read-back e ∙ read-back-coded b
+coded-injective a b e = sym (decoded-coded a) ∙ ap decoded e ∙ decoded-coded b

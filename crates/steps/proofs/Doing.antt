@@ -3,38 +3,11 @@ use mathlib.Core.Path.{_≡_, refl, ap, sym, _∙_}
 use mathlib.Core.Bool.{Bool, true, false, true≢false}
 use Prim.Native.Nat.{ℕ}
 use Rattle.steps.specs.State.{State}
-use Rattle.steps.specs.Call.{Call, Outcome}
-use Rattle.steps.specs.Call.{append, insert, insert-all, remove, remove-all, entry, occupied-append, occupied-insert, occupied-remove-entry, vacant-insert, pop-front, pop-back, retain, pack-to, clear, get, get-all, entry-len, contains-key, keys, keys-len, values-len, iter, taken}
+use Rattle.steps.specs.Call.{Call, Outcome, pack-to}
+pub use Rattle.steps.specs.Call.{packs}
 use Rattle.steps.specs.Step.{step, refusing}
 use Rattle.steps.specs.Accounting.{isRefused}
 use Rattle.steps.specs.Trace.{Kind, Does}
-
--- is it pack_to?
-abbrev pub packs : Call → Bool
-packs (append k v) = false
-packs (insert k v) = false
-packs (insert-all k v out) = false
-packs (remove k) = false
-packs (remove-all k out) = false
-packs (entry k) = false
-packs (occupied-append k v) = false
-packs (occupied-insert k v) = false
-packs (occupied-remove-entry k) = false
-packs (vacant-insert k v) = false
-packs pop-front = false
-packs pop-back = false
-packs (retain ms) = false
-packs (pack-to a b) = true
-packs clear = false
-packs (get k) = false
-packs (get-all k out) = false
-packs (entry-len k) = false
-packs (contains-key k) = false
-packs (keys out) = false
-packs keys-len = false
-packs values-len = false
-packs (iter ks vs) = false
-packs taken = false
 
 not-pack : (c : Call) → packs c ≡ false → (a b : ℕ) → c ≡ pack-to a b → ⊥
 not-pack c h a b e = true≢false (sym (ap packs e) ∙ h)

@@ -8,3 +8,5 @@ pub mod Taken
 pub mod Obeys
 pub mod Doing
 pub mod Coded
+pub mod Views
+pub mod Removals

@@ -10,8 +10,9 @@ use lib.ListN.{length, length-append}
 use borrow.Author.Tests.{leb-false}
 use Rattle.steps.specs.Lists.{last?}
 use Rattle.steps.specs.State as St
-use Rattle.steps.specs.State.{State, Pair, empty, of, has, others, kept, leave, absent, full, crowded, add, replace, remove-member, remove-pair, keep, maxRounds, maxMembers}
-use Rattle.steps.specs.Call.{Call, append, insert, insert-all, remove, remove-all, entry, occupied-append, occupied-insert, occupied-remove-entry, vacant-insert, pop-front, pop-back, retain, pack-to, clear, get, get-all, entry-len, contains-key, keys, keys-len, values-len, iter, taken}
+use Rattle.steps.specs.State.{State, Pair, empty, of, has, others, kept, leave, absent, full, crowded, add, replace, remove-member, remove-pair, relist, keep, maxRounds, maxMembers}
+use Rattle.steps.specs.Call as C
+use Rattle.steps.specs.Call.{Call}
 use Rattle.steps.specs.Step.{Check, checks, refusal, pop, act, settle, step, after}
 use Rattle.steps.specs.Proper.{Proper}
 use Rattle.steps.proofs.Filter.{length-split, length-filter, any-one, any-append}
@@ -163,7 +164,7 @@ proper-keep ms s p =
 pub proper-empty : Proper empty
 proper-empty = record { once = λ k. refl; rounds = omega arith; members = omega arith; taken = omega arith }
 
-proper-clear : (s : State) → Proper s → Proper (record { pairs = []; members = []; taken = s .taken })
+proper-clear : (s : State) → Proper s → Proper (relist [] [] s)
 proper-clear s p = record { once = λ k. refl; rounds = omega arith; members = omega arith; taken = p .taken }
 
 -- an absent member's condition is the condition; a present one's is none
@@ -175,30 +176,30 @@ known k s b e = rw e refl
 
 pub act-proper : (c : Call) (s : State) → Proper s → Pass (checks c s) → Proper (act c s .1)
 unfolding checks act
-act-proper (append k v) s p h = proper-add k v s p (h .0) (h .1 .0)
-act-proper (insert k v) s p h = proper-replace k v s p (h .0) (h .1 .0)
-act-proper (insert-all k v out) s p h = proper-replace k v s p (h .0) (h .1 .0)
-act-proper (remove k) s p h = proper-remove-member k s p
-act-proper (remove-all k out) s p h = proper-remove-member k s p
-act-proper (entry k) s p h = p
-act-proper (occupied-append k v) s p h = proper-add k v s p (h .1 .0) (h .1 .1 .0)
-act-proper (occupied-insert k v) s p h = proper-replace k v s p (known k s (full s) (h .0)) (known k s (crowded s) (h .0))
-act-proper (occupied-remove-entry k) s p h = proper-remove-member k s p
-act-proper (vacant-insert k v) s p h = proper-add k v s p (new k s (full s) (h .0) (h .1 .0)) (h .1 .1 .0)
-act-proper pop-front s p h = proper-pop s (head? (s .pairs)) (tail (s .pairs)) p (front (s .pairs))
-act-proper pop-back s p h = proper-pop s (last? (s .pairs)) (dropLast (s .pairs)) p (back (s .pairs))
-act-proper (retain ms) s p h = proper-keep ms s p
-act-proper (pack-to m n) s p h = p
-act-proper clear s p h = proper-clear s p
-act-proper (get k) s p h = p
-act-proper (get-all k out) s p h = p
-act-proper (entry-len k) s p h = p
-act-proper (contains-key k) s p h = p
-act-proper (keys out) s p h = p
-act-proper keys-len s p h = p
-act-proper values-len s p h = p
-act-proper (iter ks vs) s p h = p
-act-proper taken s p h = p
+act-proper (C.append k v) s p h = proper-add k v s p (h .0) (h .1 .0)
+act-proper (C.insert k v) s p h = proper-replace k v s p (h .0) (h .1 .0)
+act-proper (C.insert-all k v out) s p h = proper-replace k v s p (h .0) (h .1 .0)
+act-proper (C.remove k) s p h = proper-remove-member k s p
+act-proper (C.remove-all k out) s p h = proper-remove-member k s p
+act-proper (C.entry k) s p h = p
+act-proper (C.occupied-append k v) s p h = proper-add k v s p (h .1 .0) (h .1 .1 .0)
+act-proper (C.occupied-insert k v) s p h = proper-replace k v s p (known k s (full s) (h .0)) (known k s (crowded s) (h .0))
+act-proper (C.occupied-remove-entry k) s p h = proper-remove-member k s p
+act-proper (C.vacant-insert k v) s p h = proper-add k v s p (new k s (full s) (h .0) (h .1 .0)) (h .1 .1 .0)
+act-proper C.pop-front s p h = proper-pop s (head? (s .pairs)) (tail (s .pairs)) p (front (s .pairs))
+act-proper C.pop-back s p h = proper-pop s (last? (s .pairs)) (dropLast (s .pairs)) p (back (s .pairs))
+act-proper (C.retain ms) s p h = proper-keep ms s p
+act-proper (C.pack-to m n) s p h = p
+act-proper C.clear s p h = proper-clear s p
+act-proper (C.get k) s p h = p
+act-proper (C.get-all k out) s p h = p
+act-proper (C.entry-len k) s p h = p
+act-proper (C.contains-key k) s p h = p
+act-proper (C.keys out) s p h = p
+act-proper C.keys-len s p h = p
+act-proper C.values-len s p h = p
+act-proper (C.iter ks vs) s p h = p
+act-proper C.taken s p h = p
 
 pub step-proper : (c : Call) (s : State) → Proper s → Proper (step c s .1)
 unfolding step

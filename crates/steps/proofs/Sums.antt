@@ -11,7 +11,8 @@ use lib.ListN.{length, getD, length-append, length-map}
 use borrow.Author.Tests.{leb-false, leb-true, eqb-true, not-false}
 use Rattle.steps.specs.Lists.{filter, all, last?}
 use Rattle.steps.specs.State.{State, Pair, empty, of, others, kept, rounds, absent, full, crowded, maxRounds}
-use Rattle.steps.specs.Call.{Call, Outcome, refused, append, insert, insert-all, remove, remove-all, entry, occupied-append, occupied-insert, occupied-remove-entry, vacant-insert, pop-front, pop-back, retain, pack-to, clear, get, get-all, entry-len, contains-key, keys, keys-len, values-len, iter, taken}
+use Rattle.steps.specs.Call as C
+use Rattle.steps.specs.Call.{Call, Outcome, refused}
 use Rattle.steps.specs.Step.{checks, refusal, first, pop, act, settle, step, outcomes, after}
 use Rattle.steps.specs.Accounting.{times, roundsIn, Flow, moved, moves, flowOf}
 use Rattle.steps.specs.Proper.{Proper}
@@ -58,30 +59,30 @@ marked (m ∷ ms) (p ∷ ps) e h = go (eqb 0 m) refl (eqb 1 m) refl h (λ a. mar
 
 pub act-balanced : (c : Call) (s : State) → Pass (checks c s) → Balanced (length (s .pairs)) (moved c s (act c s .0 .answer)) (length (act c s .1 .pairs))
 unfolding checks act moved
-act-balanced (append k v) s h = omega (arith, added (s .pairs) (record { key = k; value = v }))
-act-balanced (insert k v) s h = omega (arith, added (others k (s .pairs)) (record { key = k; value = v }), parted k (s .pairs), first-rest (rounds k (s .pairs)))
-act-balanced (insert-all k v out) s h = omega (arith, added (others k (s .pairs)) (record { key = k; value = v }), parted k (s .pairs))
-act-balanced (remove k) s h = omega (arith, parted k (s .pairs), first-rest (rounds k (s .pairs)))
-act-balanced (remove-all k out) s h = omega (arith, parted k (s .pairs))
-act-balanced (entry k) s h = omega arith
-act-balanced (occupied-append k v) s h = omega (arith, added (s .pairs) (record { key = k; value = v }))
-act-balanced (occupied-insert k v) s h = omega (arith, added (others k (s .pairs)) (record { key = k; value = v }), parted k (s .pairs), first-rest (rounds k (s .pairs)))
-act-balanced (occupied-remove-entry k) s h = omega (arith, parted k (s .pairs), first-rest (rounds k (s .pairs)))
-act-balanced (vacant-insert k v) s h = omega (arith, added (s .pairs) (record { key = k; value = v }))
-act-balanced pop-front s h = popped-one s (head? (s .pairs)) (tail (s .pairs)) (front (s .pairs))
-act-balanced pop-back s h = popped-one s (last? (s .pairs)) (dropLast (s .pairs)) (back (s .pairs))
-act-balanced (retain ms) s h = omega (arith, marked ms (s .pairs) (eqb-true _ _ (not-false _ (h .0))) (not-false _ (h .1 .0)))
-act-balanced (pack-to m n) s h = omega arith
-act-balanced clear s h = omega arith
-act-balanced (get k) s h = omega arith
-act-balanced (get-all k out) s h = omega arith
-act-balanced (entry-len k) s h = omega arith
-act-balanced (contains-key k) s h = omega arith
-act-balanced (keys out) s h = omega arith
-act-balanced keys-len s h = omega arith
-act-balanced values-len s h = omega arith
-act-balanced (iter ks vs) s h = omega arith
-act-balanced taken s h = omega arith
+act-balanced (C.append k v) s h = omega (arith, added (s .pairs) (record { key = k; value = v }))
+act-balanced (C.insert k v) s h = omega (arith, added (others k (s .pairs)) (record { key = k; value = v }), parted k (s .pairs), first-rest (rounds k (s .pairs)))
+act-balanced (C.insert-all k v out) s h = omega (arith, added (others k (s .pairs)) (record { key = k; value = v }), parted k (s .pairs))
+act-balanced (C.remove k) s h = omega (arith, parted k (s .pairs), first-rest (rounds k (s .pairs)))
+act-balanced (C.remove-all k out) s h = omega (arith, parted k (s .pairs))
+act-balanced (C.entry k) s h = omega arith
+act-balanced (C.occupied-append k v) s h = omega (arith, added (s .pairs) (record { key = k; value = v }))
+act-balanced (C.occupied-insert k v) s h = omega (arith, added (others k (s .pairs)) (record { key = k; value = v }), parted k (s .pairs), first-rest (rounds k (s .pairs)))
+act-balanced (C.occupied-remove-entry k) s h = omega (arith, parted k (s .pairs), first-rest (rounds k (s .pairs)))
+act-balanced (C.vacant-insert k v) s h = omega (arith, added (s .pairs) (record { key = k; value = v }))
+act-balanced C.pop-front s h = popped-one s (head? (s .pairs)) (tail (s .pairs)) (front (s .pairs))
+act-balanced C.pop-back s h = popped-one s (last? (s .pairs)) (dropLast (s .pairs)) (back (s .pairs))
+act-balanced (C.retain ms) s h = omega (arith, marked ms (s .pairs) (eqb-true _ _ (not-false _ (h .0))) (not-false _ (h .1 .0)))
+act-balanced (C.pack-to m n) s h = omega arith
+act-balanced C.clear s h = omega arith
+act-balanced (C.get k) s h = omega arith
+act-balanced (C.get-all k out) s h = omega arith
+act-balanced (C.entry-len k) s h = omega arith
+act-balanced (C.contains-key k) s h = omega arith
+act-balanced (C.keys out) s h = omega arith
+act-balanced C.keys-len s h = omega arith
+act-balanced C.values-len s h = omega arith
+act-balanced (C.iter ks vs) s h = omega arith
+act-balanced C.taken s h = omega arith
 
 pub step-balanced : (c : Call) (s : State) → Balanced (length (s .pairs)) (moves c s (step c s .0)) (length (step c s .1 .pairs))
 unfolding step
@@ -101,11 +102,11 @@ pub rounds-balanced : (cs : List Call) → flowOf cs empty .accepted ≡ length 
 rounds-balanced cs = omega (arith, balanced cs empty)
 
 -- an append is refused by 1 exactly when 1,024 rounds are held
-pub append-refused : (k v : ℕ) (s : State) → Proper s → (step (append k v) s .0 .answer ≡ refused 1) ↔ (length (s .pairs) ≡ maxRounds)
+pub append-refused : (k v : ℕ) (s : State) → Proper s → (step (C.append k v) s .0 .answer ≡ refused 1) ↔ (length (s .pairs) ≡ maxRounds)
 unfolding step checks act
 append-refused k v s p = go (full s) (absent k s && crowded s) refl
   where
-    go : (b c : Bool) → full s ≡ b → (settle (cond b (some 1) (cond c (some 2) none)) (append k v) s .0 .answer ≡ refused 1) ↔ (length (s .pairs) ≡ maxRounds)
+    go : (b c : Bool) → full s ≡ b → (settle (cond b (some 1) (cond c (some 2) none)) (C.append k v) s .0 .answer ≡ refused 1) ↔ (length (s .pairs) ≡ maxRounds)
     go true c e = (λ h. omega (arith, leb-true, p .rounds), λ h. refl)
     go false true e = (λ h. absurd (let z : _≡_ {A = ℕ} 0 1 = cc in omega arith), λ h. absurd (omega (arith, leb-false)))
     go false false e = (λ h. absurd (let z : _≡_ {A = ℕ} 0 1 = cc in omega arith), λ h. absurd (omega (arith, leb-false)))
@@ -119,7 +120,7 @@ outcome-at (b ∷ bs) c rest s d = outcome-at bs c rest (step b s .1) d
 
 -- the same of every append in a list
 pub appends-refused : (before rest : List Call) (k v : ℕ) (d : Outcome)
-    → (getD (outcomes (before ++ append k v ∷ rest) empty) (length before) d .answer ≡ refused 1) ↔ (length (after before empty .pairs) ≡ maxRounds)
+    → (getD (outcomes (before ++ C.append k v ∷ rest) empty) (length before) d .answer ≡ refused 1) ↔ (length (after before empty .pairs) ≡ maxRounds)
 appends-refused before rest k v d =
-    rw (outcome-at before (append k v) rest empty d)
+    rw (outcome-at before (C.append k v) rest empty d)
     (append-refused k v (after before empty) (after-proper before empty proper-empty))

@@ -7,7 +7,7 @@ use native.Mathlib.Omega.{arith}
 use Rattle.steps.specs.Lists.{last?}
 use Rattle.steps.specs.State.{State, Pair, empty, maxTaken}
 use Rattle.steps.specs.Call.{Call}
-use Rattle.steps.specs.Call.{append, insert, insert-all, remove, remove-all, entry, occupied-append, occupied-insert, occupied-remove-entry, vacant-insert, pop-front, pop-back, retain, pack-to, clear, get, get-all, entry-len, contains-key, keys, keys-len, values-len, iter, taken}
+use Rattle.steps.specs.Call as C
 use Rattle.steps.specs.Step.{checks, refusal, pop, act, settle, step, after}
 use Rattle.steps.specs.Accounting.{moved, moves, flowOf}
 use Rattle.steps.specs.Proper.{Proper}
@@ -21,30 +21,30 @@ pop-taken (some p) rest s = refl
 act-taken : (c : Call) (s : State) → s .taken ≤ maxTaken
     → act c s .1 .taken ≡ min (s .taken + moved c s (act c s .0 .answer) .accepted) maxTaken
 unfolding act moved
-act-taken (append k v) s h = refl
-act-taken (insert k v) s h = refl
-act-taken (insert-all k v out) s h = refl
-act-taken (remove k) s h = omega arith
-act-taken (remove-all k out) s h = omega arith
-act-taken (entry k) s h = omega arith
-act-taken (occupied-append k v) s h = refl
-act-taken (occupied-insert k v) s h = refl
-act-taken (occupied-remove-entry k) s h = omega arith
-act-taken (vacant-insert k v) s h = refl
-act-taken pop-front s h = rw (pop-taken (head? (s .pairs)) (tail (s .pairs)) s) (omega arith)
-act-taken pop-back s h = rw (pop-taken (last? (s .pairs)) (dropLast (s .pairs)) s) (omega arith)
-act-taken (retain ms) s h = omega arith
-act-taken (pack-to m n) s h = omega arith
-act-taken clear s h = omega arith
-act-taken (get k) s h = omega arith
-act-taken (get-all k out) s h = omega arith
-act-taken (entry-len k) s h = omega arith
-act-taken (contains-key k) s h = omega arith
-act-taken (keys out) s h = omega arith
-act-taken keys-len s h = omega arith
-act-taken values-len s h = omega arith
-act-taken (iter ks vs) s h = omega arith
-act-taken taken s h = omega arith
+act-taken (C.append k v) s h = refl
+act-taken (C.insert k v) s h = refl
+act-taken (C.insert-all k v out) s h = refl
+act-taken (C.remove k) s h = omega arith
+act-taken (C.remove-all k out) s h = omega arith
+act-taken (C.entry k) s h = omega arith
+act-taken (C.occupied-append k v) s h = refl
+act-taken (C.occupied-insert k v) s h = refl
+act-taken (C.occupied-remove-entry k) s h = omega arith
+act-taken (C.vacant-insert k v) s h = refl
+act-taken C.pop-front s h = rw (pop-taken (head? (s .pairs)) (tail (s .pairs)) s) (omega arith)
+act-taken C.pop-back s h = rw (pop-taken (last? (s .pairs)) (dropLast (s .pairs)) s) (omega arith)
+act-taken (C.retain ms) s h = omega arith
+act-taken (C.pack-to m n) s h = omega arith
+act-taken C.clear s h = omega arith
+act-taken (C.get k) s h = omega arith
+act-taken (C.get-all k out) s h = omega arith
+act-taken (C.entry-len k) s h = omega arith
+act-taken (C.contains-key k) s h = omega arith
+act-taken (C.keys out) s h = omega arith
+act-taken C.keys-len s h = omega arith
+act-taken C.values-len s h = omega arith
+act-taken (C.iter ks vs) s h = omega arith
+act-taken C.taken s h = omega arith
 
 step-taken : (c : Call) (s : State) → s .taken ≤ maxTaken → step c s .1 .taken ≡ min (s .taken + moves c s (step c s .0) .accepted) maxTaken
 unfolding step

@@ -7,7 +7,7 @@ use lib.ListN.{length}
 use Rattle.steps.specs.Lists.{filter}
 use Rattle.steps.specs.State.{State, rounds}
 use Rattle.steps.specs.Call.{Call, Answer, Outcome, refused, none, done, round, count, present, popped, occupied, vacant}
-use Rattle.steps.specs.Call.{append, insert, insert-all, remove, remove-all, entry, occupied-append, occupied-insert, occupied-remove-entry, vacant-insert, pop-front, pop-back, retain, pack-to, clear, get, get-all, entry-len, contains-key, keys, keys-len, values-len, iter, taken}
+use Rattle.steps.specs.Call as C
 use Rattle.steps.specs.Step.{step}
 
 -- how many elements of a list pass a test
@@ -47,30 +47,30 @@ flow a h d = record { accepted = a; handed = h; dropped = d }
 
 -- the rounds that a call which is not refused accepts, hands out and drops, by the state before it and its answer
 unfoldable pub moved : Call → State → Answer → Flow
-moved (append k v) s a = flow 1 0 0
-moved (insert k v) s a = flow 1 (roundsIn a) (length (rounds k (s .pairs)) - 1)
-moved (insert-all k v out) s a = flow 1 (roundsIn a) 0
-moved (remove k) s a = flow 0 (roundsIn a) (length (rounds k (s .pairs)) - 1)
-moved (remove-all k out) s a = flow 0 (roundsIn a) 0
-moved (entry k) s a = flow 0 0 0
-moved (occupied-append k v) s a = flow 1 (roundsIn a) 0
-moved (occupied-insert k v) s a = flow 1 (roundsIn a) (length (rounds k (s .pairs)) - 1)
-moved (occupied-remove-entry k) s a = flow 0 (roundsIn a) (length (rounds k (s .pairs)) - 1)
-moved (vacant-insert k v) s a = flow 1 0 0
-moved pop-front s a = flow 0 (roundsIn a) 0
-moved pop-back s a = flow 0 (roundsIn a) 0
-moved (retain marks) s a = flow 0 0 (times (eqb 0) marks)
-moved (pack-to m n) s a = flow 0 0 0
-moved clear s a = flow 0 0 (length (s .pairs))
-moved (get k) s a = flow 0 0 0
-moved (get-all k out) s a = flow 0 0 0
-moved (entry-len k) s a = flow 0 0 0
-moved (contains-key k) s a = flow 0 0 0
-moved (keys out) s a = flow 0 0 0
-moved keys-len s a = flow 0 0 0
-moved values-len s a = flow 0 0 0
-moved (iter ks vs) s a = flow 0 0 0
-moved taken s a = flow 0 0 0
+moved (C.append k v) s a = flow 1 0 0
+moved (C.insert k v) s a = flow 1 (roundsIn a) (length (rounds k (s .pairs)) - 1)
+moved (C.insert-all k v out) s a = flow 1 (roundsIn a) 0
+moved (C.remove k) s a = flow 0 (roundsIn a) (length (rounds k (s .pairs)) - 1)
+moved (C.remove-all k out) s a = flow 0 (roundsIn a) 0
+moved (C.entry k) s a = flow 0 0 0
+moved (C.occupied-append k v) s a = flow 1 (roundsIn a) 0
+moved (C.occupied-insert k v) s a = flow 1 (roundsIn a) (length (rounds k (s .pairs)) - 1)
+moved (C.occupied-remove-entry k) s a = flow 0 (roundsIn a) (length (rounds k (s .pairs)) - 1)
+moved (C.vacant-insert k v) s a = flow 1 0 0
+moved C.pop-front s a = flow 0 (roundsIn a) 0
+moved C.pop-back s a = flow 0 (roundsIn a) 0
+moved (C.retain marks) s a = flow 0 0 (times (eqb 0) marks)
+moved (C.pack-to m n) s a = flow 0 0 0
+moved C.clear s a = flow 0 0 (length (s .pairs))
+moved (C.get k) s a = flow 0 0 0
+moved (C.get-all k out) s a = flow 0 0 0
+moved (C.entry-len k) s a = flow 0 0 0
+moved (C.contains-key k) s a = flow 0 0 0
+moved (C.keys out) s a = flow 0 0 0
+moved C.keys-len s a = flow 0 0 0
+moved C.values-len s a = flow 0 0 0
+moved (C.iter ks vs) s a = flow 0 0 0
+moved C.taken s a = flow 0 0 0
 
 -- the same of any call: a refused one moves none
 abbrev pub moves : Call → State → Outcome → Flow

@@ -1,7 +1,10 @@
 -- The calls of document 01, "The steps", each with its arguments, among them what its lent slices hold at the start; and what a call answers.
 use mathlib.Core.Bool.{Bool}
-use mathlib.Core.List.{List, []}
+use mathlib.Core.List.{List, [], _∷_}
 use Prim.Native.Nat.{ℕ}
+use lib.Dec.{eqb}
+use lib.ListN.{getD}
+use Rattle.steps.specs.Lists.{any}
 
 pub data Call : Type 0 where
   append : (k v : ℕ) → Call
@@ -29,6 +32,89 @@ pub data Call : Type 0 where
   iter : (members rounds : List ℕ) → Call
   taken : Call
 
+-- what every call brings, told alike: its number, its two arguments, 0 where it has none, what its out slices hold at the start, and its marks
+pub record View : Type 0 where
+  pub number : ℕ
+  pub k : ℕ
+  pub v : ℕ
+  pub out : List ℕ
+  pub out2 : List ℕ
+  pub marks : List ℕ
+
+abbrev seen : ℕ → ℕ → ℕ → List ℕ → List ℕ → List ℕ → View
+seen number k v out out2 marks = record { number = number; k = k; v = v; out = out; out2 = out2; marks = marks }
+
+-- the table of the calls. Where it is asked only whether a call has a slice, or which it is, this is read
+abbrev pub view : Call → View
+view (append k v) = seen 0 k v [] [] []
+view (insert k v) = seen 1 k v [] [] []
+view (insert-all k v out) = seen 2 k v out [] []
+view (remove k) = seen 3 k 0 [] [] []
+view (remove-all k out) = seen 4 k 0 out [] []
+view (entry k) = seen 5 k 0 [] [] []
+view (occupied-append k v) = seen 6 k v [] [] []
+view (occupied-insert k v) = seen 7 k v [] [] []
+view (occupied-remove-entry k) = seen 8 k 0 [] [] []
+view (vacant-insert k v) = seen 9 k v [] [] []
+view pop-front = seen 10 0 0 [] [] []
+view pop-back = seen 11 0 0 [] [] []
+view (retain marks) = seen 12 0 0 [] [] marks
+view (pack-to members rounds) = seen 13 members rounds [] [] []
+view clear = seen 14 0 0 [] [] []
+view (get k) = seen 15 k 0 [] [] []
+view (get-all k out) = seen 16 k 0 out [] []
+view (entry-len k) = seen 17 k 0 [] [] []
+view (contains-key k) = seen 18 k 0 [] [] []
+view (keys out) = seen 19 0 0 out [] []
+view keys-len = seen 20 0 0 [] [] []
+view values-len = seen 21 0 0 [] [] []
+view (iter members rounds) = seen 22 0 0 members rounds []
+view taken = seen 23 0 0 [] [] []
+
+-- the call of these: every call is the call of its view (theorem `view-back`, proofs/Views.antt). A number past the table is `taken`
+abbrev pub callOf : ℕ → ℕ → ℕ → List ℕ → List ℕ → List ℕ → Call
+callOf number k v out out2 marks =
+    getD
+    (append k v
+    ∷ insert k v
+    ∷ insert-all k v out
+    ∷ remove k
+    ∷ remove-all k out
+    ∷ entry k
+    ∷ occupied-append k v
+    ∷ occupied-insert k v
+    ∷ occupied-remove-entry k
+    ∷ vacant-insert k v
+    ∷ pop-front
+    ∷ pop-back
+    ∷ retain marks
+    ∷ pack-to k v
+    ∷ clear
+    ∷ get k
+    ∷ get-all k out
+    ∷ entry-len k
+    ∷ contains-key k
+    ∷ keys out
+    ∷ keys-len
+    ∷ values-len
+    ∷ iter out out2
+    ∷ taken
+    ∷ [])
+    number taken
+
+-- the numbers of the calls with an out slice, of that with a second one, of that with marks, and of pack_to
+abbrev pub lends : ℕ → Bool
+lends number = any (eqb number) (2 ∷ 4 ∷ 16 ∷ 19 ∷ 22 ∷ [])
+
+abbrev pub lendsTwo : ℕ → Bool
+lendsTwo number = eqb number 22
+
+abbrev pub hasMarks : ℕ → Bool
+hasMarks number = eqb number 12
+
+abbrev pub packs : Call → Bool
+packs c = eqb (view c .number) 13
+
 -- the slices that a call may write to: one, two for iter, or none
 pub record Lent : Type 0 where
   pub out : List ℕ
@@ -39,30 +125,7 @@ lend out out2 = record { out = out; out2 = out2 }
 
 -- what they hold when the call starts
 abbrev pub lent : Call → Lent
-lent (append k v) = lend [] []
-lent (insert k v) = lend [] []
-lent (insert-all k v out) = lend out []
-lent (remove k) = lend [] []
-lent (remove-all k out) = lend out []
-lent (entry k) = lend [] []
-lent (occupied-append k v) = lend [] []
-lent (occupied-insert k v) = lend [] []
-lent (occupied-remove-entry k) = lend [] []
-lent (vacant-insert k v) = lend [] []
-lent pop-front = lend [] []
-lent pop-back = lend [] []
-lent (retain marks) = lend [] []
-lent (pack-to m n) = lend [] []
-lent clear = lend [] []
-lent (get k) = lend [] []
-lent (get-all k out) = lend out []
-lent (entry-len k) = lend [] []
-lent (contains-key k) = lend [] []
-lent (keys out) = lend out []
-lent keys-len = lend [] []
-lent values-len = lend [] []
-lent (iter ks vs) = lend ks vs
-lent taken = lend [] []
+lent c = lend (view c .out) (view c .out2)
 
 pub data Answer : Type 0 where
   refused : (number : ℕ) → Answer

@@ -3,6 +3,8 @@
 use mathlib.Core.Bool.{Bool, cond}
 use mathlib.Core.List.{List, [], _∷_}
 use Prim.Native.Nat.{ℕ}
+use lib.Dec.{eqb}
+use lib.ListN.{getD}
 use Rattle.steps.specs.Call.{Answer, refused, none, done, round, count, present, popped, occupied, vacant}
 
 abbrev pub bit : Bool → ℕ
@@ -22,3 +24,19 @@ coded (present b) = words 5 (bit b) 0 0
 coded (popped k v b) = words 6 k v (bit b)
 coded (occupied n) = words 7 n 0 0
 coded (vacant k) = words 8 k 0 0
+
+-- The answer that four numbers tell; numbers of no answer tell none.
+unfoldable pub decoded : List ℕ → Answer
+decoded l =
+    getD
+    (refused (getD l 1 0)
+    ∷ none
+    ∷ done
+    ∷ round (getD l 1 0)
+    ∷ count (getD l 1 0)
+    ∷ present (eqb (getD l 1 0) 1)
+    ∷ popped (getD l 1 0) (getD l 2 0) (eqb (getD l 3 0) 1)
+    ∷ occupied (getD l 1 0)
+    ∷ vacant (getD l 1 0)
+    ∷ [])
+    (getD l 0 0) none

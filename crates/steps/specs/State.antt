@@ -72,6 +72,10 @@ crowded s = leb maxMembers (length (s .members))
 abbrev pub leave : ℕ → List ℕ → List ℕ
 leave k ks = filter (λ j. not (eqb k j)) ks
 
+-- The same state with other pairs and members: what a step that adds no round changes.
+abbrev pub relist : List Pair → List ℕ → State → State
+relist ps ks s = record { pairs = ps; members = ks; taken = s .taken }
+
 -- Adding (k, v): the pair goes to the back of P, a new k to the back of K, and T counts it up to its ceiling.
 abbrev pub add : ℕ → ℕ → State → State
 add k v s =
@@ -83,17 +87,16 @@ add k v s =
 
 -- k's old pairs leave P and (k, v) is added; a present k keeps its place in K.
 abbrev pub replace : ℕ → ℕ → State → State
-replace k v s = add k v (record { pairs = others k (s .pairs); members = s .members; taken = s .taken })
+replace k v s = add k v (relist (others k (s .pairs)) (s .members) s)
 
 -- k's pairs leave P, and k leaves K.
 abbrev pub remove-member : ℕ → State → State
-remove-member k s = record { pairs = others k (s .pairs); members = leave k (s .members); taken = s .taken }
+remove-member k s = relist (others k (s .pairs)) (leave k (s .members)) s
 
 -- The pair p has left P, with `rest` remaining; its member leaves K where no pair of it remains.
 abbrev pub remove-pair : Pair → List Pair → State → State
-remove-pair p rest s =
-    record { pairs = rest; members = cond (has (p .key) rest) (s .members) (leave (p .key) (s .members)); taken = s .taken }
+remove-pair p rest s = relist rest (cond (has (p .key) rest) (s .members) (leave (p .key) (s .members))) s
 
 -- Of P only these pairs are kept; members without a pair leave K.
 abbrev pub keep : List Pair → State → State
-keep ps s = record { pairs = ps; members = filter (λ k. has k ps) (s .members); taken = s .taken }
+keep ps s = relist ps (filter (λ k. has k ps) (s .members)) s

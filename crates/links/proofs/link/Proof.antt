@@ -1,0 +1,41 @@
+-- `links::link` meets its contract. Assumes nothing.
+use borrow.Author.Needs.{needs}
+use Rattle.links.proofs.link.Statement.{statement}
+use Rattle.links.proofs.link.Tie as tie
+
+get-requires : tie.Need-get-requires
+get-requires c κs = search needs
+
+put-requires : tie.Need-put-requires
+put-requires c κs = search needs
+
+put-requires-2 : tie.Need-put-requires-2
+put-requires-2 c κs = search needs
+
+put-requires-3 : tie.Need-put-requires-3
+put-requires-3 c κs = search needs
+
+put-requires-4 : tie.Need-put-requires-4
+put-requires-4 c κs = search needs
+
+same-length : tie.Need-same-length
+same-length c = search needs
+
+same-length-2 : tie.Need-same-length-2
+same-length-2 c = search needs
+
+returns : tie.Need-returns
+returns c = (cc, cc)
+
+pub link-spec : {M : Type 1} → statement M
+link-spec =
+    tie.close
+    (tie.spec
+    get-requires
+    put-requires
+    put-requires-2
+    put-requires-3
+    put-requires-4
+    same-length
+    same-length-2
+    returns)
