@@ -1,6 +1,1 @@
--- What the contracts of `changing` cite.
-pub mod AddingAnswer
-pub mod Sweep
-pub mod Copy
-pub mod RemovingAnswer
-pub mod InsertingAnswer
+-- What the contracts of `changing` cite stands in crate multimap.

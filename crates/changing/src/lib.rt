@@ -1,145 +1,153 @@
-// The calls that change a map. Here stand the private functions that they are made of, each in place; the modules hold the calls.
+// The four changes of the map, in place: a member joins, a round is added, a round leaves, a member leaves. Each of the map's arrays is lent, and
+// no copy of the map is made. No function has a premise on what the arrays hold: a place past the end of an array changes nothing there.
 use index::KeyPlace;
-use multimap::ListOrderedMultimap;
+use multimap::Counts;
+use multimap::Index;
+use multimap::IndexLinks;
+use multimap::KeyIndex;
+use multimap::KeyLinks;
+use multimap::Keys;
+use multimap::Lengths;
+use multimap::MEMBERS;
 use multimap::ROUNDS;
+use multimap::ValueLinks;
 use multimap::ValuePlace;
+use multimap::Values;
 ghost use mathlib.Core.Path.{_≡_};
-ghost use lib.Dec.{eqb};
-ghost use Rattle.links.specs.Path.{walk};
-ghost use mathlib.Core.Bool.{cond};
-ghost use mathlib.Core.List.{map};
-ghost use lib.ListN.{getD};
-ghost use Rattle.steps.specs.Step.{over};
-ghost use Rattle.multimap.specs.Map.{at, valueAt};
-ghost use Rattle.changing.specs.Copy.{Copies};
-ghost use Rattle.posting.specs.Strike.{chosen, visited, Stretch, Struck, MemberPlace, Emptied};
-ghost use Rattle.changing.specs.Sweep.{idle, Sweepable, Swept, RecordRemoved};
+ghost use Prim.Native.Nat.{_+_, min};
+ghost use Rattle.steps.specs.State.{maxTaken};
+ghost use Rattle.links.specs.Stores.{spot};
+ghost use Rattle.multimap.specs.Arrays.{Arrays};
+ghost use Rattle.multimap.specs.Lent.{lent, left};
+ghost use Rattle.multimap.specs.Changes.{withMember, withRound, withoutRound, Parted, Left};
 
-pub mod adding;
-pub mod inserting;
-pub mod removing;
-
-// x where the test holds, else y.
-fn choose(test: bool, x: u16, y: u16) -> u16
-    ensures { λ r. ⌜ r ≡ cond test x y ⌝ }
+// Lets the member k join at the back, with no round yet; `at` is where the search for it in the index ended. The answer is its place.
+#[rattlefmt::skip]
+pub fn join(
+    keys: &mut Keys, lengths: &mut Lengths, next_key: &mut KeyLinks, previous_key: &mut KeyLinks,
+    values: &mut Values, key_index: &mut KeyIndex, next_value: &mut ValueLinks, previous_value: &mut ValueLinks,
+    next_index: &mut IndexLinks, previous_index: &mut IndexLinks, index: &mut Index,
+    members: &mut Counts, rounds: &mut Counts, taken: &mut u32,
+    k: u64, at: usize,
+) -> KeyPlace
+    ghost { Arrays }
+    requires { λ α. ⌜ lent keys lengths «next_key» «previous_key» values «key_index» «next_value» «previous_value» «next_index» «previous_index» index members rounds taken ≡ α ⌝ }
+    ensures { λ α r. ⌜ (r .0 ≡ spot (α .members)) × (left keys lengths «next_key» «previous_key» values «key_index» «next_value» «previous_value» «next_index» «previous_index» index members rounds taken ≡ withMember α k at) ⌝ }
 {
-    if test { x } else { y }
+    let x = links::take(next_key, members);
+    let key = KeyPlace(x);
+    let cell = multimap::base(key);
+    links::link(next_key, previous_key, MEMBERS, x);
+    links::put_wide(keys, x, k);
+    links::put(lengths, x, 0);
+    links::put(next_index, cell, cell);
+    links::put(previous_index, cell, cell);
+    index::insert(index, at, key);
+    key
 }
 
-// Whether the i-th mark is 0, or there is none.
-fn dropped(marks: &[u8], i: usize) -> bool
-    ensures { λ r. ⌜ r ≡ eqb (getD (now (marks .entry)) i 0) 0 ⌝ }
+// Adds the round v of the member place `key` at the back.
+#[rattlefmt::skip]
+pub fn add(
+    keys: &mut Keys, lengths: &mut Lengths, next_key: &mut KeyLinks, previous_key: &mut KeyLinks,
+    values: &mut Values, key_index: &mut KeyIndex, next_value: &mut ValueLinks, previous_value: &mut ValueLinks,
+    next_index: &mut IndexLinks, previous_index: &mut IndexLinks, index: &mut Index,
+    members: &mut Counts, rounds: &mut Counts, taken: &mut u32,
+    key: KeyPlace, v: u64,
+)
+    ghost { Arrays }
+    requires { λ α. ⌜ lent keys lengths «next_key» «previous_key» values «key_index» «next_value» «previous_value» «next_index» «previous_index» index members rounds taken ≡ α ⌝ }
+    ensures { λ α _. ⌜ left keys lengths «next_key» «previous_key» values «key_index» «next_value» «previous_value» «next_index» «previous_index» index members rounds taken ≡ withRound α (key .0) v ⌝ }
 {
-    if i < marks.len() { marks[i] == 0 } else { true }
+    let k = key.0;
+    let x = links::take(next_value, rounds);
+    let cell = multimap::base(key);
+    links::link(next_value, previous_value, ROUNDS, x);
+    links::link(next_index, previous_index, cell, x);
+    let n = links::get(lengths, k);
+    let longer = links::one_more(n);
+    links::put_wide(values, x, v);
+    links::put(key_index, x, k);
+    links::put(lengths, k, longer);
+    let before = *taken;
+    *taken = more(before);
 }
 
-// The map without those of `turns` rounds whose mark is 0 or missing; the rounds are those from `start` on along the record, or along
-// the list of rounds. Members stay, also those left with no round.
-fn strike(
-    m: ListOrderedMultimap,
-    chain: bool,
-    start: u16,
-    turns: usize,
-    marks: &[u8],
-) -> ListOrderedMultimap
-    requires { ⌜ Stretch chain m start turns ⌝ }
-    ensures { λ r. ⌜ Struck m (chosen (now (marks .entry)) (visited chain m start turns)) r ⌝ }
+// Takes the round in the place x out of the list of rounds and of its member's chain; its place is free.
+#[rattlefmt::skip]
+pub fn strike(
+    keys: &mut Keys, lengths: &mut Lengths, next_key: &mut KeyLinks, previous_key: &mut KeyLinks,
+    values: &mut Values, key_index: &mut KeyIndex, next_value: &mut ValueLinks, previous_value: &mut ValueLinks,
+    next_index: &mut IndexLinks, previous_index: &mut IndexLinks, index: &mut Index,
+    members: &mut Counts, rounds: &mut Counts, taken: &mut u32,
+    x: ValuePlace,
+)
+    ghost { Arrays }
+    requires { λ α. ⌜ lent keys lengths «next_key» «previous_key» values «key_index» «next_value» «previous_value» «next_index» «previous_index» index members rounds taken ≡ α ⌝ }
+    ensures { λ α _. ⌜ left keys lengths «next_key» «previous_key» values «key_index» «next_value» «previous_value» «next_index» «previous_index» index members rounds taken ≡ withoutRound α (x .0) ⌝ }
 {
-    let mut out = m;
-    let mut at = start;
-    let mut i = 0;
-    while i < turns {
-        let x = at as usize;
-        let next = out.next_value[x];
-        let after = out.next_index[x];
-        if dropped(marks, i) {
-            // Where the place before was struck too, the turn before has mended these two: they are read here, not earlier.
-            let prev = out.previous_value[x];
-            let before = out.previous_index[x];
-            let key = out.key_index[x];
-            let n = out.length[key.0 as usize];
-            let free = out.values_free;
-            let freed = ValuePlace(at);
-            out.next_value[prev.0 as usize] = next;
-            out.next_value[x] = free;
-            out.previous_value[next.0 as usize] = prev;
-            out.values_free = freed;
-            out.values_len = out.values_len - 1;
-            out.next_index[before.0 as usize] = after;
-            out.previous_index[after.0 as usize] = before;
-            out.length[key.0 as usize] = n - 1;
-        }
-        at = choose(chain, after.0, next.0);
-        i += 1;
+    let p = x.0;
+    links::unlink(next_value, previous_value, p);
+    links::release(next_value, rounds, p);
+    links::unlink(next_index, previous_index, p);
+    let key = links::get(key_index, p);
+    let n = links::get(lengths, key);
+    let less = links::one_less(n);
+    links::put(lengths, key, less);
+}
+
+// Takes the member in the place `key` out of the list of members and of the index; its place is free.
+#[rattlefmt::skip]
+pub fn part(
+    keys: &mut Keys, lengths: &mut Lengths, next_key: &mut KeyLinks, previous_key: &mut KeyLinks,
+    values: &mut Values, key_index: &mut KeyIndex, next_value: &mut ValueLinks, previous_value: &mut ValueLinks,
+    next_index: &mut IndexLinks, previous_index: &mut IndexLinks, index: &mut Index,
+    members: &mut Counts, rounds: &mut Counts, taken: &mut u32,
+    key: KeyPlace,
+)
+    ghost { Arrays }
+    requires { λ α. ⌜ lent keys lengths «next_key» «previous_key» values «key_index» «next_value» «previous_value» «next_index» «previous_index» index members rounds taken ≡ α ⌝ }
+    ensures { λ α _. ⌜ Parted α (key .0) (left keys lengths «next_key» «previous_key» values «key_index» «next_value» «previous_value» «next_index» «previous_index» index members rounds taken) ⌝ }
+{
+    let k = key.0;
+    let member = multimap::member(keys, key);
+    index::remove(index, keys, member);
+    links::unlink(next_key, previous_key, k);
+    links::release(next_key, members, k);
+}
+
+// Takes the round in the place x out, and its member with it where that has no other round, which is the answer.
+#[rattlefmt::skip]
+pub fn leave(
+    keys: &mut Keys, lengths: &mut Lengths, next_key: &mut KeyLinks, previous_key: &mut KeyLinks,
+    values: &mut Values, key_index: &mut KeyIndex, next_value: &mut ValueLinks, previous_value: &mut ValueLinks,
+    next_index: &mut IndexLinks, previous_index: &mut IndexLinks, index: &mut Index,
+    members: &mut Counts, rounds: &mut Counts, taken: &mut u32,
+    x: ValuePlace,
+) -> bool
+    ghost { Arrays }
+    requires { λ α. ⌜ lent keys lengths «next_key» «previous_key» values «key_index» «next_value» «previous_value» «next_index» «previous_index» index members rounds taken ≡ α ⌝ }
+    ensures { λ α r. ⌜ Left α (x .0) r (left keys lengths «next_key» «previous_key» values «key_index» «next_value» «previous_value» «next_index» «previous_index» index members rounds taken) ⌝ }
+{
+    let key = multimap::owner(key_index, x);
+    let n = multimap::size(lengths, key);
+    strike(
+        keys, lengths, next_key, previous_key, values, key_index, next_value, previous_value,
+        next_index, previous_index, index, members, rounds, taken, x,
+    );
+    if 1 < n {
+        return false;
     }
-    out
+    part(
+        keys, lengths, next_key, previous_key, values, key_index, next_value, previous_value,
+        next_index, previous_index, index, members, rounds, taken, key,
+    );
+    true
 }
 
-// The map without those of `turns` members, from `start` on along the list of members, that have no round.
-fn sweep(m: ListOrderedMultimap, start: u16, turns: usize) -> ListOrderedMultimap
-    requires { ⌜ Sweepable m start turns ⌝ }
-    ensures { λ r. ⌜ Swept m (idle m start turns) r ⌝ }
+// One more round taken in, up to the ceiling.
+fn more(taken: u32) -> u32
+    ensures { λ r. ⌜ r ≡ min (taken + 1) maxTaken ⌝ }
 {
-    let keys = m.keys;
-    let mut out = m;
-    let mut at = start;
-    let mut i = 0;
-    while i < turns {
-        let x = at as usize;
-        let next = out.next_key[x];
-        let n = out.length[x];
-        if n == 0 {
-            let prev = out.previous_key[x];
-            let free = out.keys_free;
-            let freed = KeyPlace(at);
-            let member = keys[x];
-            index::remove(&mut out.index, &keys, member);
-            out.next_key[prev.0 as usize] = next;
-            out.next_key[x] = free;
-            out.previous_key[next.0 as usize] = prev;
-            out.keys_free = freed;
-            out.keys_len = out.keys_len - 1;
-        }
-        at = next.0;
-        i += 1;
-    }
-    out
-}
-
-// The map without the rounds of the member place `key`. The member stays, in its place of the list.
-fn empty_record(m: ListOrderedMultimap, key: u16) -> ListOrderedMultimap
-    requires { ⌜ MemberPlace m key ⌝ }
-    ensures { λ r. ⌜ Emptied m key r ⌝ }
-{
-    let next = m.next_index;
-    let lengths = m.length;
-    let root = ROUNDS + key;
-    let head = next[root as usize];
-    let n = lengths[key as usize];
-    strike(m, true, head.0, n as usize, b"")
-}
-
-// The map without the member in the place `key` and its rounds.
-fn remove_record(m: ListOrderedMultimap, key: u16) -> ListOrderedMultimap
-    requires { ⌜ MemberPlace m key ⌝ }
-    ensures { λ r. ⌜ RecordRemoved m key r ⌝ }
-{
-    let emptied = empty_record(m, key);
-    sweep(emptied, key, 1)
-}
-
-// The rounds in the n places from `head` on by `next`, written to the front of `out`.
-fn copy_record(values: &[u64; 1024], next: [ValuePlace; 1280], head: u16, n: usize, out: &mut [u64])
-    requires { ⌜ Copies next head n (now out) ⌝ }
-    ensures { λ r. ⌜ now (out .exit) ≡ over (map (at (now (values .entry))) (walk (valueAt next) head n)) (now (out .entry)) ⌝ }
-{
-    let mut place = head;
-    let mut i = 0;
-    while i < n {
-        let x = place as usize;
-        out[i] = values[x];
-        let after = next[x];
-        place = after.0;
-        i += 1;
-    }
+    if taken < 4294967295 { taken + 1 } else { taken }
 }

@@ -1,144 +1,161 @@
--- The entry calls' steps, from those of `entry`, `append`, `insert` and `remove`, for any kind of map. Assumes nothing.
+-- The entry calls' steps, from those of `append`, `insert` and `remove`; and what the answer of `entry` says of the member. Assumes nothing.
 use Prim.Native.Nat.{ℕ}
-use mathlib.Core.Path.{_≡_, refl, sym, ap, _∙_, subst}
-use mathlib.Core.Bool.{Bool, true, false}
+use mathlib.Core.Path.{_≡_, refl, sym, ap, subst, _∙_}
+use mathlib.Core.Bool.{Bool, true, false, cond, true≢false}
+use mathlib.Core.List.{List, [], _∷_}
 use native.Mathlib.Omega.{arith}
-use Rattle.steps.specs.State as St
-use Rattle.steps.specs.State.{State, full, crowded, add}
-use Rattle.steps.specs.Call.{Call, Answer, Outcome, refused, done, present, occupied, vacant}
-use Rattle.steps.specs.Call.{append, insert, remove, entry, occupied-append, occupied-insert, occupied-remove-entry, vacant-insert}
-use Rattle.steps.specs.Step.{step, checks, act, say, entryOf}
+use lib.ListN.{getD}
+use lib.Dec.{eqb}
+use borrow.Author.Tests.{eq-eqb, ne-eqb}
+use denote.Enum.Declared.{tagOf}
+use types.Run.{OneOf, miss}
+use Rattle.steps.specs.State.{State, present, full, crowded}
+use Rattle.steps.specs.Call as C
+use Rattle.steps.specs.Call.{Call, Outcome, packs, lent}
+use Rattle.steps.specs.Step.{step, checks, act, say, refusing, entryOf}
+use Rattle.steps.specs.Accounting.{isRefused}
+use Rattle.steps.specs.Coded.{coded, decoded}
 use Rattle.steps.specs.Trace.{Kind, Does}
-use Rattle.steps.proofs.Doing.{does-refuse, does-change}
-use Rattle.posting.proofs.Posts.{step-full, step-crowded, step-known, step-new}
+use Rattle.steps.specs.Told.{Told}
+use Rattle.steps.proofs.Coded.{decoded-coded}
+use Rattle.steps.proofs.Doing.{does-refuse, does-as}
+use Rattle.answers.specs.Answers.{answerOf}
+use Rattle.answers.specs.declared.Answer.{Answer}
+use Rattle.answers.proofs.Answer.{the-type}
+use Rattle.answers.proofs.Reading.{tag-is}
+use Rattle.entries.specs.Done.{doneUnless, DoneUnless}
 
--- two answers that are one
-same-answer : {a b : Answer} → say a ≡ say b → a ≡ b
-same-answer e = ap (λ (o : Outcome). o .answer) e
+-- ---- the steps
 
-module _ {Map : Type 0} (M : Kind Map) (k : ℕ) (m : Map) where
-  abbrev s : State
-  s = M .abs m
+-- the outcome told only as done
+abbrev quiet : Outcome × State → Outcome × State
+quiet r = (say (doneUnless (r .0 .answer)), r .1)
 
-  step-entry : step (entry k) (M .abs m) .0 ≡ say (entryOf (St.present k (M .abs m)) k (M .abs m))
+module _ (k v : ℕ) (s : State) where
+  pub occupied-append-is : present k s ≡ true → step (C.occupied-append k v) s ≡ quiet (step (C.append k v) s)
   unfolding step checks act
-  step-entry = refl
-
-  -- what the answer of `entry` says of the member
-  pub entry-occupied : (n : ℕ) → Does M (entry k) m (say (occupied n)) m → St.present k (M .abs m) ≡ true
-  entry-occupied n d = go (St.present k s) refl (same-answer (d .outcome ∙ step-entry))
+  occupied-append-is p = go (full s) refl
     where
-      go : (b : Bool) → St.present k s ≡ b → occupied n ≡ entryOf b k s → St.present k s ≡ true
-      go true p e = p
-      go false p e = absurd (let z : _≡_ {A = ℕ} 0 1 = cc in omega arith)
+      go : (f : Bool) → full s ≡ f → step (C.occupied-append k v) s ≡ quiet (step (C.append k v) s)
+      go true f = simp (p, f) refl
+      go false f = simp (p, f) refl
 
-  pub entry-vacant : (j : ℕ) → Does M (entry k) m (say (vacant j)) m → St.present k (M .abs m) ≡ false
-  entry-vacant j d = go (St.present k s) refl (same-answer (d .outcome ∙ step-entry))
+  pub vacant-insert-is : present k s ≡ false → step (C.vacant-insert k v) s ≡ quiet (step (C.append k v) s)
+  unfolding step checks act
+  vacant-insert-is p = go (full s) (crowded s) refl refl
     where
-      go : (b : Bool) → St.present k s ≡ b → vacant j ≡ entryOf b k s → St.present k s ≡ false
-      go true p e = absurd (let z : _≡_ {A = ℕ} 0 1 = cc in omega arith)
-      go false p e = p
+      go : (f c : Bool) → full s ≡ f → crowded s ≡ c → step (C.vacant-insert k v) s ≡ quiet (step (C.append k v) s)
+      go true c f g = simp (p, f) refl
+      go false true f g = simp (p, f, g) refl
+      go false false f g = simp (p, f, g) refl
 
-  -- an absent member
-  module _ (l : M .Linked m) (p : St.present k (M .abs m) ≡ false) where
-    pub occupied-append-absent : (v : ℕ) → Does M (occupied-append k v) m (say (refused 9)) m
-    unfolding step checks
-    occupied-append-absent v = does-refuse M (occupied-append k v) m 9 l (rw p refl)
+  pub occupied-insert-is : present k s ≡ true → step (C.insert k v) s ≡ step (C.occupied-insert k v) s
+  unfolding step checks act
+  occupied-insert-is p = rw (p, p) refl
 
-    pub occupied-insert-absent : (v : ℕ) → Does M (occupied-insert k v) m (say (refused 9)) m
-    unfolding step checks
-    occupied-insert-absent v = does-refuse M (occupied-insert k v) m 9 l (rw p refl)
+  pub occupied-remove-is : present k s ≡ true → step (C.remove k) s ≡ step (C.occupied-remove-entry k) s
+  unfolding step checks act
+  occupied-remove-is p = rw p refl
 
-    pub occupied-remove-absent : Does M (occupied-remove-entry k) m (say (refused 9)) m
-    unfolding step checks
-    occupied-remove-absent = does-refuse M (occupied-remove-entry k) m 9 l (rw p refl)
+-- ---- the answer of `entry`
 
-  -- a present one
-  pub vacant-insert-present : (v : ℕ) → M .Linked m → St.present k (M .abs m) ≡ true → Does M (vacant-insert k v) m (say (refused 10)) m
-  unfolding step checks
-  vacant-insert-present v l p = does-refuse M (vacant-insert k v) m 10 l (rw p refl)
+-- by the variant that the code is told: Occupied has the position 7, Vacant 8
+module _ (a : Answer) (b : Bool) (k : ℕ) (s : State) (e : answerOf a ≡ entryOf b k s) where
+  tag : tagOf the-type a ≡ cond b 7 8
+  tag = tag-is a ∙ ap (λ (x : C.Answer). getD (coded x) 0 0) e ∙ position b
+    where
+      position : (b : Bool) → getD (coded (entryOf b k s)) 0 0 ≡ cond b 7 8
+      position true = refl
+      position false = refl
 
-  -- a refused call gave back its very map
-  same-map : (c : Call) (n : ℕ) (m′ : Map) → Does M c m (say (refused n)) m′ → m′ ≡ m
-  same-map c n m′ d = d .same refl
+  told : (ks : List ℕ) → OneOf ks (tagOf the-type a) → OneOf ks (cond b 7 8)
+  told ks h = subst (OneOf ks) tag h
 
-  module _ (v : ℕ) (m′ : Map) where
-    module _ (p : St.present k (M .abs m) ≡ true) where
-      occupied-full : full (M .abs m) ≡ true → step (occupied-append k v) (M .abs m) ≡ (say (refused 1), M .abs m)
-      unfolding step checks
-      occupied-full f = rw (p, f) refl
+-- Occupied, or any other
+pub is-occupied : (a : Answer) (b : Bool) (k : ℕ) (s : State) → answerOf a ≡ entryOf b k s → OneOf (7 ∷ []) (tagOf the-type a) → b ≡ true
+is-occupied a true k s e h = refl
+is-occupied a false k s e h = absurd (miss (7 ∷ []) 8 tt (told a false k s e (7 ∷ []) h))
 
-      occupied-done : full (M .abs m) ≡ false → step (occupied-append k v) (M .abs m) ≡ (say done, add k v (M .abs m))
-      unfolding step checks act
-      occupied-done f = rw (p, f, p) refl
+abbrev pub not7 : List ℕ
+not7 = 0 ∷ 1 ∷ 2 ∷ 3 ∷ 4 ∷ 5 ∷ 6 ∷ 8 ∷ []
 
-      pub occupied-append-done : (b : Bool) → Does M (append k v) m (say (present b)) m′ → Does M (occupied-append k v) m (say done) m′
-      occupied-append-done b d = go (full s) refl
-        where
-          go : (f : Bool) → full s ≡ f → Does M (occupied-append k v) m (say done) m′
-          go true f =
-              let e : present b ≡ refused 1 = same-answer (d .outcome ∙ ap (λ (r : Outcome × State). r .0) (step-full k v s f)) in
-              absurd (let z : _≡_ {A = ℕ} 0 1 = cc in omega arith)
-          go false f =
-              does-change M (occupied-append k v) m (say done) (add k v s) m′ refl refl (occupied-done f)
-              (d .state ∙ ap (λ (r : Outcome × State). r .1) (step-known k v s f p)) (d .linked)
+pub not-occupied : (a : Answer) (b : Bool) (k : ℕ) (s : State) → answerOf a ≡ entryOf b k s → OneOf not7 (tagOf the-type a) → b ≡ false
+not-occupied a true k s e h = absurd (miss not7 7 tt (told a true k s e not7 h))
+not-occupied a false k s e h = refl
 
-      pub occupied-append-refused : (n : ℕ) → M .Linked m → Does M (append k v) m (say (refused n)) m′ → Does M (occupied-append k v) m (say (refused 1)) m′
-      occupied-append-refused n l d = go (full s) refl
-        where
-          go : (f : Bool) → full s ≡ f → Does M (occupied-append k v) m (say (refused 1)) m′
-          go true f = subst (λ (x : Map). Does M (occupied-append k v) m (say (refused 1)) x) (sym (same-map (append k v) n m′ d)) (does-refuse M (occupied-append k v) m 1 l (occupied-full f))
-          go false f =
-              let e : refused n ≡ present true = same-answer (d .outcome ∙ ap (λ (r : Outcome × State). r .0) (step-known k v s f p)) in
-              absurd (let z : _≡_ {A = ℕ} 0 1 = cc in omega arith)
+-- Vacant, or any other
+pub is-vacant : (a : Answer) (b : Bool) (k : ℕ) (s : State) → answerOf a ≡ entryOf b k s → OneOf (8 ∷ []) (tagOf the-type a) → b ≡ false
+is-vacant a true k s e h = absurd (miss (8 ∷ []) 7 tt (told a true k s e (8 ∷ []) h))
+is-vacant a false k s e h = refl
 
-      -- insert and remove of a present member do what the entry's calls do
-      pub occupied-insert-as : step (insert k v) (M .abs m) ≡ step (occupied-insert k v) (M .abs m)
-      unfolding step checks act
-      occupied-insert-as = rw (p, p) refl
+abbrev pub not8 : List ℕ
+not8 = 0 ∷ 1 ∷ 2 ∷ 3 ∷ 4 ∷ 5 ∷ 6 ∷ 7 ∷ []
 
-      pub occupied-remove-as : step (remove k) (M .abs m) ≡ step (occupied-remove-entry k) (M .abs m)
-      unfolding step checks act
-      occupied-remove-as = rw p refl
+pub not-vacant : (a : Answer) (b : Bool) (k : ℕ) (s : State) → answerOf a ≡ entryOf b k s → OneOf not8 (tagOf the-type a) → b ≡ true
+not-vacant a true k s e h = refl
+not-vacant a false k s e h = absurd (miss not8 8 tt (told a false k s e not8 h))
 
-    module _ (p : St.present k (M .abs m) ≡ false) where
-      vacant-full : full (M .abs m) ≡ true → step (vacant-insert k v) (M .abs m) ≡ (say (refused 1), M .abs m)
-      unfolding step checks
-      vacant-full f = rw (p, f) refl
+-- ---- the numbers of an answer, and what is told
 
-      vacant-crowded : full (M .abs m) ≡ false → crowded (M .abs m) ≡ true → step (vacant-insert k v) (M .abs m) ≡ (say (refused 2), M .abs m)
-      unfolding step checks
-      vacant-crowded f g = rw (p, f, g) refl
+refused-number : (a : C.Answer) → isRefused a ≡ eqb (getD (coded a) 0 0) 0
+refused-number (C.refused n) = refl
+refused-number C.none = refl
+refused-number C.done = refl
+refused-number (C.round v) = refl
+refused-number (C.count n) = refl
+refused-number (C.present b) = refl
+refused-number (C.popped k v b) = refl
+refused-number (C.occupied n) = refl
+refused-number (C.vacant k) = refl
 
-      vacant-done : full (M .abs m) ≡ false → crowded (M .abs m) ≡ false → step (vacant-insert k v) (M .abs m) ≡ (say done, add k v (M .abs m))
-      unfolding step checks act
-      vacant-done f g = rw (p, f, g, p) refl
+abbrev pub not0 : List ℕ
+not0 = 1 ∷ 2 ∷ 3 ∷ 4 ∷ 5 ∷ 6 ∷ 7 ∷ 8 ∷ []
 
-      pub vacant-insert-done : (b : Bool) → Does M (append k v) m (say (present b)) m′ → Does M (vacant-insert k v) m (say done) m′
-      vacant-insert-done b d = go (full s) (crowded s) refl refl
-        where
-          go : (f c : Bool) → full s ≡ f → crowded s ≡ c → Does M (vacant-insert k v) m (say done) m′
-          go true c f g =
-              let e : present b ≡ refused 1 = same-answer (d .outcome ∙ ap (λ (r : Outcome × State). r .0) (step-full k v s f)) in
-              absurd (let z : _≡_ {A = ℕ} 0 1 = cc in omega arith)
-          go false true f g =
-              let e : present b ≡ refused 2 = same-answer (d .outcome ∙ ap (λ (r : Outcome × State). r .0) (step-crowded k v s f p g)) in
-              absurd (let z : _≡_ {A = ℕ} 0 1 = cc in omega arith)
-          go false false f g =
-              does-change M (vacant-insert k v) m (say done) (add k v s) m′ refl refl (vacant-done f g)
-              (d .state ∙ ap (λ (r : Outcome × State). r .1) (step-new k v s f p g)) (d .linked)
+-- the answer r was read from these numbers
+module _ (r : Answer) (ns : List ℕ) (e : answerOf r ≡ decoded ns) where
+  number : (a : C.Answer) → ns ≡ coded a → tagOf the-type r ≡ getD (coded a) 0 0
+  number a h = tag-is r ∙ ap (λ (x : C.Answer). getD (coded x) 0 0) (e ∙ ap decoded h ∙ decoded-coded a)
 
-      pub vacant-insert-refused : (n : ℕ) → M .Linked m → Does M (append k v) m (say (refused n)) m′ → Does M (vacant-insert k v) m (say (refused n)) m′
-      vacant-insert-refused n l d = go (full s) (crowded s) refl refl
-        where
-          back : (j : ℕ) → refused n ≡ refused j → step (vacant-insert k v) s ≡ (say (refused j), s) → Does M (vacant-insert k v) m (say (refused n)) m′
-          back j e i =
-              subst (λ (a : Answer). Does M (vacant-insert k v) m (say a) m′) (sym e)
-              (subst (λ (x : Map). Does M (vacant-insert k v) m (say (refused j)) x) (sym (same-map (append k v) n m′ d)) (does-refuse M (vacant-insert k v) m j l i))
+  pub refusal-stays : OneOf (0 ∷ []) (tagOf the-type r) → DoneUnless ns ns
+  refusal-stays z a h = h ∙ simp (refused-number a ∙ eq-eqb (getD (coded a) 0 0) 0 (sym (number a h) ∙ z))
 
-          go : (f c : Bool) → full s ≡ f → crowded s ≡ c → Does M (vacant-insert k v) m (say (refused n)) m′
-          go true c f g = back 1 (same-answer (d .outcome ∙ ap (λ (r : Outcome × State). r .0) (step-full k v s f))) (vacant-full f)
-          go false true f g = back 2 (same-answer (d .outcome ∙ ap (λ (r : Outcome × State). r .0) (step-crowded k v s f p g))) (vacant-crowded f g)
-          go false false f g =
-              let e : refused n ≡ present false = same-answer (d .outcome ∙ ap (λ (r : Outcome × State). r .0) (step-new k v s f p g)) in
-              absurd (let z : _≡_ {A = ℕ} 0 1 = cc in omega arith)
+  pub else-done : OneOf not0 (tagOf the-type r) → {ns′ : List ℕ} → ns′ ≡ coded C.done → DoneUnless ns ns′
+  else-done z i a h =
+      i ∙ simp (refused-number a ∙ ne-eqb (getD (coded a) 0 0) 0 (λ j. miss not0 0 tt (subst (OneOf not0) (number a h ∙ j) z)))
+
+still-refused : (a : C.Answer) → isRefused (doneUnless a) ≡ true → isRefused a ≡ true
+still-refused a h = go (isRefused a) refl
+  where
+    go : (b : Bool) → isRefused a ≡ b → isRefused a ≡ true
+    go true e = e
+    go false e = absurd (true≢false (sym h ∙ simp e))
+
+module _ {Map : Type 0} (M : Kind Map) (m : Map) where
+  pub told-refused : (c : Call) (n : ℕ) (ans : List ℕ) → M .Linked m → step c (M .abs m) ≡ (refusing c n, M .abs m) → ans ≡ coded (C.refused n)
+      → Told M c m m (lent c .out) (lent c .out2) ans
+  told-refused c n ans l e i =
+      record { outcome = refusing c n; does = does-refuse M c m n l e; out-is = refl; out2-is = refl; ans-is = i }
+
+  module _ {c d : Call} {m′ : Map} {ans : List ℕ} (p : packs d ≡ false) (t : Told M c m m′ [] [] ans) where
+    -- a call whose step is another's
+    pub told-as : step c (M .abs m) ≡ step d (M .abs m) → Told M d m m′ [] [] ans
+    told-as e =
+        record { outcome = t .outcome; does = does-as M c m d (t .outcome) m′ p e (t .does); out-is = t .out-is; out2-is = t .out2-is; ans-is = t .ans-is }
+
+    -- one whose step is another's, told only as done
+    pub told-done : step d (M .abs m) ≡ quiet (step c (M .abs m)) → {ans′ : List ℕ} → DoneUnless ans ans′ → Told M d m m′ [] [] ans′
+    told-done e h =
+        record {
+          outcome = say (doneUnless (t .outcome .answer));
+          does =
+              record {
+                outcome = ap (λ (o : Outcome). say (doneUnless (o .answer))) (t .does .outcome) ∙ sym (ap (λ (r : Outcome × State). r .0) e);
+                state = t .does .state ∙ sym (ap (λ (r : Outcome × State). r .1) e);
+                linked = t .does .linked;
+                same = λ r. t .does .same (still-refused (t .outcome .answer) r);
+                packed = λ a b i r. absurd (true≢false (sym (ap packs i) ∙ p));
+              };
+          out-is = refl;
+          out2-is = refl;
+          ans-is = h (t .outcome .answer) (t .ans-is);
+        }

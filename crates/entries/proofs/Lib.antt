@@ -1,4 +1,3 @@
 -- Laws that belong to no one function.
 pub mod Entries
-pub mod Firsts
-pub mod Told
+pub mod Calls

@@ -1,2 +1,1 @@
--- What the contracts of `entries` cite.
-pub mod Answers
+pub mod Done

@@ -10,7 +10,7 @@ use native.Mathlib.Omega.{arith}
 use lib.ListN.{length, getD, take, drop, length-take, length-drop, drop-of-length-le}
 use lib.Seq.{slice, slice-cons, take-suc, drop-append-le}
 use Rattle.steps.specs.Lists.{last?}
-use Rattle.multimap.specs.declared.Got.the-variants.{Nothing, Round}
+use Rattle.entry_values.specs.declared.Got.the-variants.{Nothing, Round}
 use Rattle.entry_values.specs.Reader.{between, orNone, Gave}
 
 -- of a list with one more element at its end

@@ -9,9 +9,9 @@ use native.Mathlib.Numerals.{add-one}
 use native.Mathlib.Omega.{arith}
 use lib.ListN.{length, getD, set, drop, length-append, drop-of-length-le}
 use lib.Seq.{drop-cons, set-out, sets, length-sets}
-use Rattle.multimap.specs.Answers.{gotOf}
-use Rattle.multimap.specs.declared.Got.{Got}
-use Rattle.multimap.specs.declared.Got.the-variants.{Nothing, Round}
+use Rattle.entry_values.specs.Got.{gotOf}
+use Rattle.entry_values.specs.declared.Got.{Got}
+use Rattle.entry_values.specs.declared.Got.the-variants.{Nothing, Round}
 use Rattle.entry_values.specs.Reader.{Gave}
 use Rattle.entry_values.specs.Mix.{answers, rounds, roundOf, given, markOf, marks, Mixed}
 

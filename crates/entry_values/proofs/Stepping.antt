@@ -53,8 +53,8 @@ use Rattle.entry_values.proofs.EntryValues as T
 use Rattle.entry_values.proofs.EntryValues.Laws as T′
 use Rattle.entry_values.proofs.Turn as R
 use Rattle.entry_values.proofs.Turn.Laws as R′
-use Rattle.multimap.proofs.Got as S
-use Rattle.multimap.proofs.Got.Laws as S′
+use Rattle.entry_values.proofs.Got as S
+use Rattle.entry_values.proofs.Got.Laws as S′
 use Rattle.entry_values.proofs.give as give
 use Rattle.entry_values.proofs.give.Symbol.{name as #entry-values·give}
 use Rattle.entry_values.proofs.next as next

@@ -7,8 +7,8 @@ use lib.Dec.{eqb}
 use lib.ListN.{length, replicate}
 use lib.Seq.{sets}
 use Rattle.steps.specs.Call.{Answer, refused, none, done, round, count, present, popped, occupied, vacant}
-use Rattle.multimap.specs.Answers.{gotOf}
-use Rattle.multimap.specs.declared.Got.{Got}
+use Rattle.entry_values.specs.Got.{gotOf}
+use Rattle.entry_values.specs.declared.Got.{Got}
 use Rattle.entry_values.specs.declared.EntryValues.{EntryValues}
 use Rattle.entry_values.specs.Reader.{answer, rest, remaining, Stepped}
 

@@ -10,8 +10,8 @@ use lib.Seq.{slice}
 use denote.Ref.{RefT, now}
 use Rattle.steps.specs.Lists.{last?}
 use Rattle.steps.specs.Call.{Answer, none, round}
-use Rattle.multimap.specs.Answers.{gotOf}
-use Rattle.multimap.specs.declared.Got.{Got}
+use Rattle.entry_values.specs.Got.{gotOf}
+use Rattle.entry_values.specs.declared.Got.{Got}
 use Rattle.entry_values.specs.declared.EntryValues.{EntryValues}
 
 -- the part of a slice that get_all filled, where it answered `count`; the whole slice where that is shorter

@@ -1,15 +1,20 @@
 // The rounds of one record, given from either end (document 01, module 5): a struct that holds the filled part of a slice and two ends,
 // and thin functions over it. The borrow checker covers no function over a struct that holds a reference, so each of these is proved
 // by hand and leaves the work to a function of a slice and numbers.
-use multimap::Got;
 ghost use mathlib.Core.Path.{_≡_};
 ghost use mathlib.Core.Bool.{true, false};
 ghost use lib.ListN.{length, getD};
 ghost use lib.Seq.{sets};
 ghost use Prim.Native.Nat.{min, _+_, _<_, _^_};
-ghost use Rattle.multimap.specs.Answers.{gotOf};
+ghost use Rattle.entry_values.specs.Got.{gotOf};
 ghost use Rattle.entry_values.specs.Reader.{Filled, Fresh, Gave, Stepped, filledPart, between, remaining};
 ghost use Rattle.entry_values.specs.Mix.{Mixed, markOf, marks, roundOf};
+
+// A round, or none.
+pub enum Got {
+    Nothing,
+    Round(u64),
+}
 
 pub struct EntryValues<'a> {
     pub rounds: &'a [u64],

@@ -1,5 +1,5 @@
--- What `write_image` leaves is what the definition says. Assumes nothing.
-use Prim.Native.Nat.{ℕ, _+_, _*_, _≤_, _<_}
+-- What `om_write_image` leaves is what the definition says. Assumes nothing.
+use Prim.Native.Nat.{ℕ, _+_, _*_, _≤_, _<_, min}
 use mathlib.Core.Path.{_≡_, sym, ap, _∙_}
 use mathlib.Core.Bool.{false, _||_}
 use mathlib.Core.List.{List, _++_, map}
@@ -8,16 +8,19 @@ use borrow.Author.Tests.{lt-ltb, le-ltb}
 use lib.ListN.{length, take, drop, length-append, length-map}
 use lib.Seq.{sets, sets-eq, take-at}
 use Rattle.fnv.specs.Fnv.{bytes}
-use Rattle.steps.specs.State.{State, Pair}
-use Rattle.steps.specs.Call.{Answer, Outcome, lend, iter, count, refused}
+use Rattle.steps.specs.State.{State, Pair, maxRounds}
+use Rattle.steps.specs.Call.{Lent, Outcome, lend, iter, count, refused}
+use Rattle.steps.specs.Coded.{coded}
 use Rattle.steps.specs.Step.{step, checks, act, short, over, write}
-use Rattle.steps.specs.Trace.{Does}
-use Rattle.multimap.specs.Map.{pairs, members, stateOf}
+use Rattle.steps.specs.Told.{Told}
+use Rattle.multimap.specs.Arrays.{Arrays}
+use Rattle.multimap.specs.Map as Map
+use Rattle.multimap.specs.Map.{at, pairs, stateOf}
 use Rattle.multimap.specs.WellLinked.{WellLinked, linked}
-use Rattle.multimap.specs.declared.ListOrderedMultimap.{ListOrderedMultimap}
 use Rattle.multimap.proofs.Stores.{length-pairs, length-members}
 use Rattle.image.specs.Bytes.{array, layout}
 use Rattle.image.specs.Image.{imageOf, writeOf}
+use Rattle.image.specs.Answers.{Writes}
 use Rattle.image.proofs.Writes.{length-bytes, length-array}
 
 -- an image is 8 + 16 × n long
@@ -42,7 +45,8 @@ length-image s =
     )
 
 -- the image stored from the front
-written-whole : (s : State) (out out′ : List ℕ) → length (imageOf s) ≤ length out → out′ ≡ sets out 0 (imageOf s) → write (count (8 + 16 * length (s .pairs))) out′ ≡ writeOf s out
+written-whole : (s : State) (out out′ : List ℕ) → length (imageOf s) ≤ length out → out′ ≡ sets out 0 (imageOf s)
+    → write (count (8 + 16 * length (s .pairs))) out′ ≡ writeOf s out
 unfolding writeOf
 written-whole s out out′ h e =
     let room : 0 + length (imageOf s) ≤ length out = omega arith in
@@ -50,58 +54,60 @@ written-whole s out out′ h e =
     let all : out′ ≡ over (imageOf s) out = e ∙ sets-eq (imageOf s) out 0 room ∙ ap (λ (k : ℕ). imageOf s ++ drop k out) z in
     rw (le-ltb (length out) (length (imageOf s)) h) (ap (write (count (8 + 16 * length (s .pairs)))) all)
 
--- ---- what `iter` leaves in two arrays that are long enough
+-- ---- what `om_iter` leaves in two arrays that are long enough
 
 step-iter : (s : State) (ks vs : List ℕ) → (short ks (s .pairs) || short vs (s .pairs)) ≡ false
-    → step (iter ks vs) s .0
-    ≡ record { answer = count (length (s .pairs)); slices = lend (over (map (λ p. p .key) (s .pairs)) ks) (over (map (λ p. p .value) (s .pairs)) vs) }
+    → step (iter ks vs) s .0 .slices ≡ lend (over (map (λ p. p .key) (s .pairs)) ks) (over (map (λ p. p .value) (s .pairs)) vs)
 unfolding step checks act
 step-iter s ks vs e = rw e
 
-module _ (m : ListOrderedMultimap) (g : WellLinked m) where
-  pub few-rounds : m .«values_len» ≤ 1024
-  few-rounds = omega (arith, g .chained .rounds .some-used, g .chained .rounds .some-fresh)
+module _ (a : Arrays) (g : WellLinked a) where
+  held : at (a .rounds) 0 ≤ 1024
+  held = omega (arith, g .chained .rounds .some-used, g .chained .rounds .some-fresh)
 
-  -- the pairs' members and rounds
-  abbrev pub ms : List ℕ
-  ms = map (λ p. p .key) (pairs m)
+  front : (n : ℕ) → n ≡ at (a .rounds) 0 → (f : Pair → ℕ) (out : List ℕ) → take n (over (map f (pairs a)) out) ≡ map f (pairs a)
+  front n e f out = take-at (map f (pairs a)) (drop (length (map f (pairs a))) out) n (length-map (pairs a) f ∙ length-pairs a ∙ sym e)
 
-  abbrev pub vs : List ℕ
-  vs = map (λ p. p .value) (pairs m)
-
-  front : (A : Type 0) (f : Pair → A) (rest : List A) → take (m .«values_len») (map f (pairs m) ++ rest) ≡ map f (pairs m)
-  front A f rest = take-at (map f (pairs m)) rest (m .«values_len») (length-map (pairs m) f ∙ length-pairs m)
-
-  pub iterated : (ks us ks′ us′ : List ℕ) (a : Answer) → length ks ≡ 1024 → length us ≡ 1024
-      → Does linked (iter ks us) m (record { answer = a; slices = lend ks′ us′ }) m
-      → (take (m .«values_len») ks′ ≡ map (λ p. p .key) (pairs m)) × (take (m .«values_len») us′ ≡ map (λ p. p .value) (pairs m))
-  iterated ks us ks′ us′ a e f d =
-      let fit : (l : List ℕ) → length l ≡ 1024 → short l (pairs m) ≡ false = λ l h. le-ltb (length l) (length (pairs m)) (omega (arith, length-pairs m, few-rounds)) in
-      let o = d .outcome ∙ step-iter (stateOf m) ks us (rw (fit ks e) (fit us f)) in (
-        ap (λ (o : Outcome). take (m .«values_len») (o .slices .out)) o ∙ front ℕ (λ p. p .key) (drop (length ms) ks),
-        ap (λ (o : Outcome). take (m .«values_len») (o .slices .out2)) o ∙ front ℕ (λ p. p .value) (drop (length vs) us),
+  iterated : (n : ℕ) → n ≡ at (a .rounds) 0 → (ks vs ks′ vs′ ans : List ℕ) → length ks ≡ 1024 → length vs ≡ 1024
+      → Told linked (iter ks vs) a a ks′ vs′ ans → (take n ks′ ≡ map (λ p. p .key) (pairs a)) × (take n vs′ ≡ map (λ p. p .value) (pairs a))
+  iterated n e ks vs ks′ vs′ ans lk lv t =
+      let fit : (l : List ℕ) → length l ≡ 1024 → short l (pairs a) ≡ false =
+      λ l h. le-ltb (length l) (length (pairs a)) (omega (arith, length-pairs a, held)) in
+      let o = ap (λ (o : Outcome). o .slices) (t .does .outcome) ∙ step-iter (stateOf a) ks vs (rw (fit ks lk) (fit vs lv)) in (
+        ap (take n) (t .out-is ∙ ap (λ (l : Lent). l .out) o) ∙ front n e (λ p. p .key) ks,
+        ap (take n) (t .out2-is ∙ ap (λ (l : Lent). l .out2) o) ∙ front n e (λ p. p .value) vs,
       )
 
-  pub many : (A : Type 0) (f : Pair → A) (l : List A) → l ≡ map f (pairs m) → length l ≡ m .«values_len»
-  many A f l e = ap length e ∙ length-map (pairs m) f ∙ length-pairs m
+-- ---- the two answers
 
-  -- ---- the two answers
+module _ (a : Arrays) (g : WellLinked a) (n : ℕ) (rounds : List ℕ) (e : rounds ≡ a .rounds) (n-is : n ≡ min (at rounds 0) maxRounds) where
+  few : n ≡ at (a .rounds) 0
+  few = omega (arith, held a g, ap (λ (t : List ℕ). at t 0) e)
 
-  long : length (imageOf (stateOf m)) ≡ 8 + 16 * m .«values_len»
-  long = omega (arith, length-image (stateOf m), length-pairs m)
+  long : length (imageOf (stateOf a)) ≡ 8 + 16 * n
+  long = omega (arith, length-image (stateOf a), length-pairs a, few)
 
-  image : layout (m .«values_len») (m .«keys_len») (map (λ p. p .key) (pairs m)) (map (λ p. p .value) (pairs m)) ≡ imageOf (stateOf m)
-  unfolding imageOf
-  image = ap (λ (k : ℕ). layout k (m .«keys_len») ms vs) (sym (length-pairs m)) ∙ ap (λ (k : ℕ). layout (length (pairs m)) k ms vs) (sym (length-members m))
+  pub write-short : (out ans : List ℕ) → length out < 8 + 16 * n → ans ≡ coded (refused 3) → Writes a out out ans
+  unfolding writeOf
+  write-short out ans h t =
+      record { answer = refused 3; writes = rw (lt-ltb (length out) (length (imageOf (stateOf a))) (omega (arith, long))); ans-is = t }
 
-  module _ (out : List ℕ) where
-    pub write-short : length out < 8 + 16 * m .«values_len» → write (refused 3) out ≡ writeOf (stateOf m) out
-    unfolding writeOf
-    write-short h = rw (lt-ltb (length out) (length (imageOf (stateOf m))) (omega (arith, long)))
+  module _ (ks vs ms us ans₀ : List ℕ) (lk : length ks ≡ 1024) (lv : length vs ≡ 1024) (t : Told linked (iter ks vs) a a ms us ans₀)
+      (members : List ℕ) (em : members ≡ a .members) (m : ℕ) (m-is : m ≡ at members 0) where
+    image : layout (length (take n ms)) m (take n ms) (take n us) ≡ imageOf (stateOf a)
+    unfolding imageOf
+    image =
+        let i = iterated a g n few ks vs ms us ans₀ lk lv t in
+        let joined : m ≡ length (Map.members a) = m-is ∙ ap (λ (l : List ℕ). at l 0) em ∙ sym (length-members a) in
+        rw (i .0, i .1, length-map (pairs a) (λ p. p .key), joined)
 
-    pub write-done : 8 + 16 * m .«values_len» ≤ length out → (out′ ks us : List ℕ) (n : ℕ) → n ≡ m .«values_len» → ks ≡ map (λ p. p .key) (pairs m) → us ≡ map (λ p. p .value) (pairs m)
-        → out′ ≡ sets out 0 (layout n (m .«keys_len») ks us) → write (count (8 + 16 * m .«values_len»)) out′ ≡ writeOf (stateOf m) out
-    write-done h out′ ks us n is ek eu e =
-        let is-image : layout n (m .«keys_len») ks us ≡ imageOf (stateOf m) = rw (is, ek, eu) image in
-        ap (λ (k : ℕ). write (count (8 + 16 * k)) out′) (sym (length-pairs m))
-        ∙ written-whole (stateOf m) out out′ (omega (arith, long)) (e ∙ ap (sets out 0) is-image)
+    pub write-done : (out out′ ans : List ℕ) → 8 + 16 * n ≤ length out
+        → out′ ≡ sets out 0 (layout (length (take n ms)) m (take n ms) (take n us)) → ans ≡ coded (count (8 + 16 * n)) → Writes a out out′ ans
+    write-done out out′ ans h s f =
+        record {
+          answer = count (8 + 16 * n);
+          writes =
+              ap (λ (k : ℕ). write (count (8 + 16 * k)) out′) (few ∙ sym (length-pairs a))
+              ∙ written-whole (stateOf a) out out′ (omega (arith, long)) (s ∙ ap (sets out 0) image);
+          ans-is = f;
+        }

@@ -1,9 +1,8 @@
+-- Laws that belong to no one function.
 pub mod Writes
 pub mod Images
 pub mod Numbers
-pub mod Gathers
-pub mod Lines
-pub mod Fills
+pub mod Appends
 pub mod Restores
 pub mod Back
 pub mod Distinct

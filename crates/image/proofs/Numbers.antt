@@ -72,7 +72,8 @@ pub record Read (s : List ℕ) (n : ℕ) (out : List ℕ) (i : ℕ) : Type 0 whe
 pub read-none : (s : List ℕ) (n : ℕ) (out : List ℕ) → length out ≡ 1024 → Read s n out 0
 read-none s n out e = record { some = omega arith; size = e; front = refl }
 
-pub read-one : {s : List ℕ} {n : ℕ} {out : List ℕ} {i : ℕ} → Read s n out i → n ≤ 1024 → i < n → (x : ℕ) → x ≡ number 8 (drop (8 * i) s) → Read s n (set out i x) (i + 1)
+pub read-one : {s : List ℕ} {n : ℕ} {out : List ℕ} {i : ℕ} → Read s n out i → n ≤ 1024 → i < n → (x : ℕ)
+    → x ≡ number 8 (drop (8 * i) s) → Read s n (set out i x) (i + 1)
 read-one {s} {n} {out} {i} t few more x is =
     record {
       some = omega arith;

@@ -15,17 +15,19 @@ use Rattle.steps.specs.State.{State, Pair, maxRounds, maxMembers}
 use Rattle.steps.specs.Marked.{firsts, start}
 use Rattle.steps.specs.Call.{Answer, done}
 use Rattle.steps.specs.Step.{refusal}
-use Rattle.multimap.specs.Map.{pairs, members, stateOf}
+use Rattle.multimap.specs.Map.{pairs, stateOf}
 use Rattle.multimap.specs.WellLinked.{WellLinked}
-use Rattle.multimap.specs.declared.ListOrderedMultimap.{ListOrderedMultimap}
+use Rattle.multimap.specs.Arrays.{Arrays}
 use Rattle.multimap.proofs.Stores.{length-pairs, length-members}
 use Rattle.image.specs.Bytes.{array, layout, number, numbers, AllBytes, Words}
 use Rattle.image.specs.Image.{imageOf, roundsSaid, membersSaid, pairsIn, pairUp, reading, restored, readOf, Accepted}
 use Rattle.image.proofs.Writes.{length-array}
 use Rattle.image.proofs.Images.{length-image}
 use Rattle.image.proofs.Numbers.{length-numbers}
+use Rattle.image.proofs.Appends.{length-paired}
 use Rattle.image.proofs.Restores.{read-whole, keys-of, values-of}
-use Rattle.image.proofs.Back.{fits-four, number-bytes, drop-bytes, numbers-array, long-keys, long-values, paired, bytes-number, bytes-at, array-at}
+use Rattle.image.proofs.Back.{fits-four, number-bytes, drop-bytes, numbers-array, long-keys, long-values, paired}
+use Rattle.image.proofs.Back.{bytes-number, bytes-at, array-at}
 use Rattle.image.proofs.Distinct.{members-counted}
 
 -- ---- what an image says
@@ -40,7 +42,8 @@ module _ (n m : ℕ) (ks vs : List ℕ) where
   -- past the sizes, and past the members
   past-sizes : drop 8 (layout n m ks vs) ≡ array ks ++ array vs
   past-sizes =
-      sym (drop-drop 4 4 (layout n m ks vs)) ∙ ap (drop 4) (drop-bytes 4 n (bytes 4 m ++ (array ks ++ array vs))) ∙ drop-bytes 4 m (array ks ++ array vs)
+      sym (drop-drop 4 4 (layout n m ks vs)) ∙ ap (drop 4) (drop-bytes 4 n (bytes 4 m ++ (array ks ++ array vs)))
+      ∙ drop-bytes 4 m (array ks ++ array vs)
 
   past-members : length ks ≡ n → drop (8 + 8 * n) (layout n m ks vs) ≡ array vs
   past-members e =
@@ -90,7 +93,8 @@ image-injective s t fs ft ws wt e = sym (image-pairs s fs ws) ∙ ap pairsIn e �
 
 -- ---- what is written is read back
 
-pub written-read : (s : State) → Words (s .pairs) → length (s .pairs) ≤ maxRounds → length (s .members) ≤ maxMembers → length (s .members) ≡ length (firsts [] (s .pairs))
+pub written-read : (s : State) → Words (s .pairs) → length (s .pairs) ≤ maxRounds → length (s .members) ≤ maxMembers
+    → length (s .members) ≡ length (firsts [] (s .pairs))
     → readOf (imageOf s) ≡ (done, start (s .pairs))
 written-read s w few few-members counted =
     let f : length (s .pairs) < 4294967296 = omega arith in
@@ -103,7 +107,7 @@ written-read s w few few-members counted =
     ∙ ap (λ (l : List Pair). (done, start l)) p
 
 -- of a map: the same P, K in order of first appearance in P, and T is the number of rounds
-pub map-read-back : (m : ListOrderedMultimap) → WellLinked m → Words (pairs m) → readOf (imageOf (stateOf m)) ≡ (done, start (pairs m))
+pub map-read-back : (m : Arrays) → WellLinked m → Words (pairs m) → readOf (imageOf (stateOf m)) ≡ (done, start (pairs m))
 map-read-back m g w =
     written-read (stateOf m) w (omega (arith, length-pairs m, g .chained .rounds .some-used, g .chained .rounds .some-fresh))
     (omega (arith, length-members m, g .chained .members .some-used, g .chained .members .some-fresh)) (members-counted m g)
@@ -116,7 +120,8 @@ accepts s e =
     go (ltb (length s) 8) (ltb maxRounds (roundsSaid s)) (ltb maxMembers (membersSaid s)) (eqb (length s) (8 + 16 * roundsSaid s))
     (eqb (membersSaid s) (length (firsts [] (pairsIn s)))) refl refl refl refl refl e
   where
-    go : (a b c d f : Bool) → ltb (length s) 8 ≡ a → ltb maxRounds (roundsSaid s) ≡ b → ltb maxMembers (membersSaid s) ≡ c → eqb (length s) (8 + 16 * roundsSaid s) ≡ d
+    go : (a b c d f : Bool) → ltb (length s) 8 ≡ a → ltb maxRounds (roundsSaid s) ≡ b → ltb maxMembers (membersSaid s) ≡ c
+        → eqb (length s) (8 + 16 * roundsSaid s) ≡ d
         → eqb (membersSaid s) (length (firsts [] (pairsIn s))) ≡ f
         → restored (refusal ((a, 11) ∷ (b || c, 12) ∷ (not d, 13) ∷ (not f, 14) ∷ [])) s .0 ≡ done → Accepted s
     go true b c d f ea eb ec ed ef h = absurd (let z : _≡_ {A = ℕ} 0 1 = cc in omega arith)
@@ -151,14 +156,16 @@ parts s k e =
     take-all k (drop (8 + k) s) (omega (arith, length-drop (8 + k) s)) ∙ sym (drop-drop k 8 s) in
     let arrays : take k (drop 8 s) ++ take k (drop (8 + k) s) ≡ drop 4 (drop 4 s) =
     ap (λ (l : List ℕ). take k (drop 8 s) ++ l) last ∙ take-append-drop k (drop 8 s) ∙ sym (drop-drop 4 4 s) in
-    ap (λ (l : List ℕ). take 4 s ++ (take 4 (drop 4 s) ++ l)) arrays ∙ ap (λ (l : List ℕ). take 4 s ++ l) (take-append-drop 4 (drop 4 s)) ∙ take-append-drop 4 s
+    ap (λ (l : List ℕ). take 4 s ++ (take 4 (drop 4 s) ++ l)) arrays
+    ∙ ap (λ (l : List ℕ). take 4 s ++ l) (take-append-drop 4 (drop 4 s)) ∙ take-append-drop 4 s
 
 laid-back : (s : List ℕ) → AllBytes s → length s ≡ 8 + 16 * roundsSaid s
     → layout (roundsSaid s) (membersSaid s) (numbers (roundsSaid s) (drop 8 s)) (numbers (roundsSaid s) (drop (8 + 8 * roundsSaid s) s)) ≡ s
 laid-back s h e =
     let n : ℕ = roundsSaid s in
     let f : length s ≡ 8 + 8 * n + 8 * n = omega arith in
-    rw (bytes-number 4 s (omega arith) h, bytes-at 4 4 s (omega arith) h, array-at n 8 s (omega arith) h, array-at n (8 + 8 * n) s (omega arith) h) (parts s (8 * n) f)
+    rw (bytes-number 4 s (omega arith) h, bytes-at 4 4 s (omega arith) h, array-at n 8 s (omega arith) h, array-at n (8 + 8 * n) s (omega arith) h)
+    (parts s (8 * n) f)
 
 image-whole : (s : List ℕ) → AllBytes s → Accepted s → imageOf (start (pairsIn s)) ≡ s
 unfolding imageOf pairsIn
@@ -167,7 +174,7 @@ image-whole s h a =
     let xs : List ℕ = numbers n (drop 8 s) in
     let ys : List ℕ = numbers n (drop (8 + 8 * n) s) in
     let same : length xs ≡ length ys = length-numbers n (drop 8 s) ∙ sym (length-numbers n (drop (8 + 8 * n) s)) in
-    let many : length (pairUp xs ys) ≡ n = sym (length-map (pairUp xs ys) (λ p. p .key)) ∙ ap length (keys-of xs ys same) ∙ length-numbers n (drop 8 s) in
+    let many : length (pairUp xs ys) ≡ n = length-paired xs ys same ∙ length-numbers n (drop 8 s) in
     ap (λ (k : ℕ). layout k (length (firsts [] (pairUp xs ys))) (map (λ p. p .key) (pairUp xs ys)) (map (λ p. p .value) (pairUp xs ys))) many
     ∙ ap (λ (k : ℕ). layout n k (map (λ p. p .key) (pairUp xs ys)) (map (λ p. p .value) (pairUp xs ys))) (sym (a .counted))
     ∙ ap (λ (l : List ℕ). layout n (membersSaid s) l (map (λ p. p .value) (pairUp xs ys))) (keys-of xs ys same)

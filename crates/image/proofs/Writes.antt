@@ -97,7 +97,8 @@ puts-all {at} {xs} {out} {i} t e =
 -- ---- the whole image
 
 -- the sizes and the arrays stored one after the other
-pub laid : (out : List ℕ) (n m : ℕ) (ms vs : List ℕ) (a b c d : List ℕ) → n ≡ length ms → a ≡ sets out 0 (bytes 4 n) → b ≡ sets a 4 (bytes 4 m) → c ≡ sets b 8 (array ms)
+pub laid : (out : List ℕ) (n m : ℕ) (ms vs : List ℕ) (a b c d : List ℕ) → n ≡ length ms → a ≡ sets out 0 (bytes 4 n)
+    → b ≡ sets a 4 (bytes 4 m) → c ≡ sets b 8 (array ms)
     → d ≡ sets c (8 + 8 * n) (array vs) → d ≡ sets out 0 (layout n m ms vs)
 laid out n m ms vs a b c d long ea eb ec ed =
     let p : 0 + length (bytes 4 n) ≡ 4 = omega (arith, length-bytes 4 n) in

@@ -2,4 +2,4 @@
 pub mod Bytes
 pub mod Image
 pub mod Answers
-pub mod Members
+pub mod Parts

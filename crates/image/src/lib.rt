@@ -1,45 +1,106 @@
 // The image of a map (document 01, module 7): sizes first, n rounds and m members in four bytes each, then n members and n rounds in eight
-// bytes each; every number lowest byte first.
-use index::Found;
-use index::KeyPlace;
-use multimap::ListOrderedMultimap;
-use multimap::MEMBERS;
+// bytes each; every number lowest byte first. No exported function has a premise.
+use answers::Answer;
+use multimap::Counts;
+use multimap::Index;
+use multimap::IndexLinks;
+use multimap::KeyIndex;
+use multimap::KeyLinks;
+use multimap::Keys;
+use multimap::Lengths;
 use multimap::ROUNDS;
-use multimap::ValuePlace;
+use multimap::ValueLinks;
+use multimap::Values;
 ghost use mathlib.Core.Path.{_≡_};
-ghost use Prim.Native.Nat.{_+_, _*_, _<_, _≤_};
+ghost use Prim.Native.Nat.{_+_, _*_, _<_, _≤_, min};
 ghost use lib.ListN.{length, take, drop};
 ghost use lib.Seq.{sets};
 ghost use Rattle.fnv.specs.Fnv.{bytes};
-ghost use Rattle.steps.specs.Step.{write};
-ghost use Rattle.multimap.specs.Map.{stateOf};
+ghost use Rattle.steps.specs.State.{empty, maxRounds};
+ghost use Rattle.multimap.specs.Arrays.{Arrays};
+ghost use Rattle.multimap.specs.Lent.{lent, left};
+ghost use Rattle.multimap.specs.Map.{at, stateOf};
 ghost use Rattle.multimap.specs.WellLinked.{WellLinked};
 ghost use Rattle.image.specs.Bytes.{array, number, numbers, layout};
-ghost use Rattle.image.specs.Image.{writeOf};
-ghost use Rattle.image.specs.Answers.{writtenOf, Reads, Refuses, readingOf};
-ghost use Rattle.image.specs.Members.{placeOr, endOf, Gathered, Lined, Fillable, Filled};
+ghost use Rattle.image.specs.Image.{pairUp};
+ghost use Rattle.image.specs.Answers.{Writes, Restores};
+ghost use Rattle.image.specs.Parts.{RightSizes, Said, Restored, Built};
 
-// What writing answers: how many bytes the image has; or refused by 3, since the slice is too short.
-pub enum Written {
-    Length(u64),
-    Short,
+// Writes the image of the map to the front of `out`: of every well-linked map that has the arrays lent.
+#[no_mangle]
+#[rattlefmt::skip]
+pub extern "C" fn om_write_image<'a>(
+    keys: &'a Keys, values: &'a Values, key_index: &'a KeyIndex, next_value: &'a ValueLinks, members: &'a Counts, rounds: &'a Counts,
+    out: &mut [u8], answer: &mut [u64; 4],
+)
+    ensures { λ _. ⌜ ((α : Arrays) → (now (keys .entry) ≡ α .keys) × (now (values .entry) ≡ α .values) × (now («key_index» .entry) ≡ α .«key_index»)
+        × (now («next_value» .entry) ≡ α .«next_value») × (now (members .entry) ≡ α .members) × (now (rounds .entry) ≡ α .rounds)
+        → WellLinked α → Writes α (now (out .entry)) (now (out .exit)) (now (answer .exit))) ⌝ }
+{
+    let n = held(rounds);
+    let joined = links::get(members, 0) as u64;
+    let size = 8 + 16 * n;
+    if out.len() < size {
+        answers::tell(answer, Answer::Refused(3));
+        return;
+    }
+    let mut numbers = [0u64; 1024];
+    let mut posted = [0u64; 1024];
+    reading::om_iter(keys, values, key_index, next_value, rounds, &mut numbers, &mut posted, answer);
+    put_image(out, joined, &numbers[..n], &posted[..n]);
+    answers::tell(answer, Answer::Count(size as u64));
 }
 
-// What reading answers: done; or refused, by 11, 12, 13 or 14.
-pub enum Reading {
-    Done,
-    TooShort,
-    TooMany,
-    WrongLength,
-    WrongMembers,
+// Reads an image, whatever the arrays hold; a refused reading leaves the empty map.
+#[no_mangle]
+#[rattlefmt::skip]
+pub extern "C" fn om_read_image(
+    keys: &mut Keys, lengths: &mut Lengths, next_key: &mut KeyLinks, previous_key: &mut KeyLinks,
+    values: &mut Values, key_index: &mut KeyIndex, next_value: &mut ValueLinks, previous_value: &mut ValueLinks,
+    next_index: &mut IndexLinks, previous_index: &mut IndexLinks, index: &mut Index,
+    members: &mut Counts, rounds: &mut Counts, taken: &mut u32,
+    bytes: &[u8], answer: &mut [u64; 4],
+)
+    ensures { λ _. ⌜ Restores (now (bytes .entry)) (left keys lengths «next_key» «previous_key» values «key_index» «next_value» «previous_value» «next_index» «previous_index» index members rounds taken) (now (answer .exit)) ⌝ }
+{
+    packing::om_new(
+        keys, lengths, next_key, previous_key, values, key_index, next_value, previous_value,
+        next_index, previous_index, index, members, rounds, taken,
+    );
+    let said = read_sizes(bytes);
+    match said {
+        Sizes::Refused(number) => {
+            answers::tell(answer, Answer::Refused(number));
+            return;
+        }
+        Sizes::Right(n, m) => {
+            let restored = restore(
+                keys, lengths, next_key, previous_key, values, key_index, next_value, previous_value,
+                next_index, previous_index, index, members, rounds, taken, bytes, n, m,
+            );
+            if restored {
+                answers::tell(answer, Answer::Done);
+                return;
+            }
+            packing::om_new(
+                keys, lengths, next_key, previous_key, values, key_index, next_value, previous_value,
+                next_index, previous_index, index, members, rounds, taken,
+            );
+            answers::tell(answer, Answer::Refused(14));
+            return;
+        }
+    }
 }
 
-pub struct Restored {
-    pub map: ListOrderedMultimap,
-    pub answer: Reading,
+// Counts the rounds, no more than there is room for.
+fn held(rounds: &Counts) -> usize
+    ensures { λ r. ⌜ r ≡ min (at (now (rounds .entry)) 0) maxRounds ⌝ }
+{
+    let n = rounds[0];
+    if n < ROUNDS { n as usize } else { 1024 }
 }
 
-// The number x to the `width` bytes from `at` on.
+// Stores the number x in the `width` bytes from `at` on.
 fn put(out: &mut [u8], at: usize, x: u64, width: usize)
     requires { ⌜ at + width ≤ length (now out) ⌝ }
     ensures { λ _. ⌜ now (out .exit) ≡ sets (now (out .entry)) at (bytes width x) ⌝ }
@@ -53,7 +114,7 @@ fn put(out: &mut [u8], at: usize, x: u64, width: usize)
     }
 }
 
-// The numbers to the bytes from `at` on, eight each.
+// Stores the numbers in the bytes from `at` on, eight each.
 fn put_all(out: &mut [u8], at: usize, numbers: &[u64])
     requires { ⌜ at + 8 * length (now numbers) ≤ length (now out) ⌝ }
     ensures { λ _. ⌜ now (out .exit) ≡ sets (now (out .entry)) at (array (now (numbers .entry))) ⌝ }
@@ -66,7 +127,7 @@ fn put_all(out: &mut [u8], at: usize, numbers: &[u64])
     }
 }
 
-// The sizes and the two arrays to the front of `out`.
+// Stores the sizes and the two arrays at the front of `out`.
 fn put_image(out: &mut [u8], held: u64, members: &[u64], rounds: &[u64])
     requires { ⌜ 8 + 8 * length (now members) + 8 * length (now rounds) ≤ length (now out) ⌝ }
     ensures { λ _. ⌜ now (out .exit) ≡ sets (now (out .entry)) 0 (layout (length (now (members .entry))) held (now (members .entry)) (now (rounds .entry))) ⌝ }
@@ -78,25 +139,87 @@ fn put_image(out: &mut [u8], held: u64, members: &[u64], rounds: &[u64])
     put_all(out, 8 + 8 * n, rounds);
 }
 
-// The image of the map to the front of `out`.
-pub fn write_image(m: ListOrderedMultimap, out: &mut [u8]) -> Written
-    requires { ⌜ WellLinked m ⌝ }
-    ensures { λ r. ⌜ write (writtenOf r) (now (out .exit)) ≡ writeOf (stateOf m) (now (out .entry)) ⌝ }
-{
-    let n = m.values_len as usize;
-    let size = 8 + 16 * n;
-    if out.len() < size {
-        return Written::Short;
-    }
-    let held = m.keys_len as u64;
-    let mut members = [0u64; 1024];
-    let mut rounds = [0u64; 1024];
-    reading::iter(m, &mut members, &mut rounds);
-    put_image(out, held, &members[..n], &rounds[..n]);
-    Written::Length(size as u64)
+// What an image says in its sizes: how many rounds and members; or the number by which they are refused.
+enum Sizes {
+    Right(usize, u64),
+    Refused(u64),
 }
 
-// The number in the four bytes from `at` on.
+// Reads the sizes and checks them, with the image's length, in the order of the table.
+fn read_sizes(s: &[u8]) -> Sizes
+    ensures { λ r. ⌜ Said (now (s .entry)) r ⌝ }
+{
+    if s.len() < 8 {
+        return Sizes::Refused(11);
+    }
+    let n = four(s, 0);
+    let m = four(s, 4);
+    if 1024 < n || 256 < m {
+        return Sizes::Refused(12);
+    }
+    let rounds = n as usize;
+    if s.len() != 8 + 16 * rounds {
+        return Sizes::Refused(13);
+    }
+    Sizes::Right(rounds, m)
+}
+
+// Appends the n pairs of an image to the empty map. The answer is whether they have m members.
+#[rattlefmt::skip]
+fn restore(
+    keys: &mut Keys, lengths: &mut Lengths, next_key: &mut KeyLinks, previous_key: &mut KeyLinks,
+    values: &mut Values, key_index: &mut KeyIndex, next_value: &mut ValueLinks, previous_value: &mut ValueLinks,
+    next_index: &mut IndexLinks, previous_index: &mut IndexLinks, index: &mut Index,
+    members: &mut Counts, rounds: &mut Counts, taken: &mut u32,
+    s: &[u8], n: usize, m: u64,
+) -> bool
+    ghost { Arrays }
+    requires { λ α. ⌜ lent keys lengths «next_key» «previous_key» values «key_index» «next_value» «previous_value» «next_index» «previous_index» index members rounds taken ≡ α ⌝ }
+    requires { λ α. ⌜ WellLinked α × (stateOf α ≡ empty) × RightSizes (now s) n m ⌝ }
+    ensures { λ α r. ⌜ Restored (now (s .entry)) r (left keys lengths «next_key» «previous_key» values «key_index» «next_value» «previous_value» «next_index» «previous_index» index members rounds taken) ⌝ }
+{
+    let ks = read_numbers(&s[8..], n);
+    let vs = read_numbers(&s[8 + 8 * n..], n);
+    let all = append_all(
+        keys, lengths, next_key, previous_key, values, key_index, next_value, previous_value,
+        next_index, previous_index, index, members, rounds, taken, &ks[..n], &vs[..n],
+    );
+    let met = links::get(members, 0) as u64;
+    all && met == m
+}
+
+// Appends the pairs of a member and a round each to the empty map. The answer is whether there was room for all of their members.
+#[rattlefmt::skip]
+fn append_all(
+    keys: &mut Keys, lengths: &mut Lengths, next_key: &mut KeyLinks, previous_key: &mut KeyLinks,
+    values: &mut Values, key_index: &mut KeyIndex, next_value: &mut ValueLinks, previous_value: &mut ValueLinks,
+    next_index: &mut IndexLinks, previous_index: &mut IndexLinks, index: &mut Index,
+    members: &mut Counts, rounds: &mut Counts, taken: &mut u32,
+    ks: &[u64], vs: &[u64],
+) -> bool
+    ghost { Arrays }
+    requires { λ α. ⌜ lent keys lengths «next_key» «previous_key» values «key_index» «next_value» «previous_value» «next_index» «previous_index» index members rounds taken ≡ α ⌝ }
+    requires { λ α. ⌜ WellLinked α × (stateOf α ≡ empty) × (length (now ks) ≤ maxRounds) × (length (now ks) ≡ length (now vs)) ⌝ }
+    ensures { λ α r. ⌜ Built (pairUp (now (ks .entry)) (now (vs .entry))) r (left keys lengths «next_key» «previous_key» values «key_index» «next_value» «previous_value» «next_index» «previous_index» index members rounds taken) ⌝ }
+{
+    let mut answer = [0u64; 4];
+    let mut i = 0;
+    while i < ks.len() {
+        let k = ks[i];
+        let v = vs[i];
+        adding::om_append(
+            keys, lengths, next_key, previous_key, values, key_index, next_value, previous_value,
+            next_index, previous_index, index, members, rounds, taken, k, v, &mut answer,
+        );
+        if answer[0] == 0 {
+            return false;
+        }
+        i += 1;
+    }
+    true
+}
+
+// Reads the number in the four bytes from `at` on.
 fn four(s: &[u8], at: usize) -> u64
     requires { ⌜ at + 4 ≤ length (now s) ⌝ }
     ensures { λ r. ⌜ (r ≡ number 4 (drop at (now (s .entry)))) × (r < 4294967296) ⌝ }
@@ -108,7 +231,7 @@ fn four(s: &[u8], at: usize) -> u64
     a + 256 * b + 65536 * c + 16777216 * d
 }
 
-// The number in the eight bytes from `at` on.
+// Reads the number in the eight bytes from `at` on.
 fn eight(s: &[u8], at: usize) -> u64
     requires { ⌜ at + 8 ≤ length (now s) ⌝ }
     ensures { λ r. ⌜ r ≡ number 8 (drop at (now (s .entry))) ⌝ }
@@ -118,7 +241,7 @@ fn eight(s: &[u8], at: usize) -> u64
     low + 4294967296 * high
 }
 
-// The first n numbers of eight bytes.
+// Reads the first n numbers of eight bytes.
 fn read_numbers(s: &[u8], n: usize) -> [u64; 1024]
     requires { ⌜ (n ≤ 1024) × (8 * n ≤ length (now s)) ⌝ }
     ensures { λ r. ⌜ take n r ≡ numbers n (now (s .entry)) ⌝ }
@@ -131,205 +254,4 @@ fn read_numbers(s: &[u8], n: usize) -> [u64; 1024]
         i += 1;
     }
     out
-}
-
-// How many members there are, their numbers and the index; and of each number of an array its member place.
-struct Gathering {
-    keys: [u64; 256],
-    index: [u16; 512],
-    places: [u16; 1024],
-    count: u16,
-}
-
-// The member place that a search found; or where it found none, the next one.
-fn place_of(found: Found, next: u16) -> u16
-    ensures { λ r. ⌜ r ≡ placeOr found next ⌝ }
-{
-    match found {
-        Found::At(_, key, _) => key.0,
-        Found::Absent(_, _) => next,
-    }
-}
-
-// The place of the index where a search ended.
-fn ended_at(found: Found) -> usize
-    ensures { λ r. ⌜ r ≡ endOf found ⌝ }
-{
-    match found {
-        Found::At(at, _, _) => at,
-        Found::Absent(at, _) => at,
-    }
-}
-
-// The numbers as members: the distinct ones in the member places from 0 on, in order of first appearance. A count of 257 says that there
-// are more than 256. The stores for a number that is known already put what stands there.
-fn gather(numbers: &[u64]) -> Gathering
-    requires { ⌜ length (now numbers) ≤ 1024 ⌝ }
-    ensures { λ r. ⌜ Gathered (now (numbers .entry)) (r .keys) (r .index) (r .places) (r .count) ⌝ }
-{
-    let mut keys = [0u64; 256];
-    let mut index = index::empty();
-    let mut places = [0u16; 1024];
-    let mut count: u16 = 0;
-    let mut i = 0;
-    while i < numbers.len() {
-        let member = numbers[i];
-        let found = index::find(&index, &keys, member);
-        let key = place_of(found, count);
-        let at = ended_at(found);
-        if MEMBERS <= key {
-            return Gathering {
-                keys,
-                index,
-                places,
-                count: 257,
-            };
-        }
-        let k = key as usize;
-        keys[k] = member;
-        index[at] = key;
-        places[i] = key;
-        if key == count {
-            count += 1;
-        }
-        i += 1;
-    }
-    Gathering {
-        keys,
-        index,
-        places,
-        count,
-    }
-}
-
-// The map with `count` members in the member places from 0 on, with empty records, and no round.
-fn line_up(keys: [u64; 256], index: [u16; 512], count: u16) -> ListOrderedMultimap
-    requires { ⌜ count ≤ 256 ⌝ }
-    ensures { λ r. ⌜ Lined keys index count r ⌝ }
-{
-    let mut out = ListOrderedMultimap {
-        keys,
-        length: [0; 256],
-        next_key: [KeyPlace(0); 257],
-        previous_key: [KeyPlace(0); 257],
-        values: [0; 1024],
-        key_index: [KeyPlace(0); 1024],
-        next_value: [ValuePlace(0); 1025],
-        previous_value: [ValuePlace(0); 1025],
-        next_index: [ValuePlace(0); 1280],
-        previous_index: [ValuePlace(0); 1280],
-        index,
-        keys_len: 0,
-        keys_fresh: 0,
-        keys_free: KeyPlace(0),
-        values_len: 0,
-        values_fresh: 0,
-        values_free: ValuePlace(0),
-        taken: 0,
-    };
-    out.next_key[256] = KeyPlace(MEMBERS);
-    out.previous_key[256] = KeyPlace(MEMBERS);
-    out.next_value[1024] = ValuePlace(ROUNDS);
-    out.previous_value[1024] = ValuePlace(ROUNDS);
-    let mut i: u16 = 0;
-    while i < count {
-        let k = i as usize;
-        let last = out.previous_key[256];
-        out.next_key[last.0 as usize] = KeyPlace(i);
-        out.next_key[k] = KeyPlace(MEMBERS);
-        out.previous_key[k] = last;
-        out.previous_key[256] = KeyPlace(i);
-        out.length[k] = 0;
-        let root = ROUNDS + i;
-        let cell = root as usize;
-        out.next_index[cell] = ValuePlace(root);
-        out.previous_index[cell] = ValuePlace(root);
-        i += 1;
-        out.keys_len = i;
-        out.keys_fresh = i;
-    }
-    out
-}
-
-// The map with n rounds in the round places from 0 on, each at the back of the record of its member place.
-fn fill(
-    m: ListOrderedMultimap,
-    places: [u16; 1024],
-    rounds: [u64; 1024],
-    n: u16,
-) -> ListOrderedMultimap
-    requires { ⌜ Fillable places n m ⌝ }
-    ensures { λ r. ⌜ Filled places rounds n m r ⌝ }
-{
-    let mut out = m;
-    let mut i: u16 = 0;
-    while i < n {
-        let q = i as usize;
-        let key = places[q];
-        let round = rounds[q];
-        let k = key as usize;
-        let last = out.previous_value[1024];
-        out.next_value[last.0 as usize] = ValuePlace(i);
-        out.next_value[q] = ValuePlace(ROUNDS);
-        out.previous_value[q] = last;
-        out.previous_value[1024] = ValuePlace(i);
-        out.values[q] = round;
-        out.key_index[q] = KeyPlace(key);
-        let root = ROUNDS + key;
-        let cell = root as usize;
-        let tail = out.previous_index[cell];
-        out.next_index[tail.0 as usize] = ValuePlace(i);
-        out.next_index[q] = ValuePlace(root);
-        out.previous_index[q] = tail;
-        out.previous_index[cell] = ValuePlace(i);
-        let held = out.length[k];
-        out.length[k] = held + 1;
-        i += 1;
-        out.values_len = i;
-        out.values_fresh = i;
-    }
-    out
-}
-
-// A refused reading.
-fn refuse(answer: Reading) -> Restored
-    ensures { λ r. ⌜ Refuses (r .map) × (r .answer ≡ answer) ⌝ }
-{
-    let map = multimap::new();
-    Restored { map, answer }
-}
-
-// The map of an image.
-pub fn read_image(s: &[u8]) -> Restored
-    ensures { λ r. ⌜ Reads (now (s .entry)) (readingOf (r .answer)) (r .map) ⌝ }
-{
-    if s.len() < 8 {
-        return refuse(Reading::TooShort);
-    }
-    let n = four(s, 0);
-    let m = four(s, 4);
-    if 1024 < n || 256 < m {
-        return refuse(Reading::TooMany);
-    }
-    let rounds = n as usize;
-    if s.len() != 8 + 16 * rounds {
-        return refuse(Reading::WrongLength);
-    }
-    let keys = read_numbers(&s[8..], rounds);
-    let values = read_numbers(&s[8 + 8 * rounds..], rounds);
-    let gathering = gather(&keys[..rounds]);
-    let count = gathering.count;
-    if count as u64 != m {
-        return refuse(Reading::WrongMembers);
-    }
-    let numbers = gathering.keys;
-    let index = gathering.index;
-    let places = gathering.places;
-    let lined = line_up(numbers, index, count);
-    let mut map = fill(lined, places, values, n as u16);
-    map.taken = n as u32;
-    Restored {
-        map,
-        answer: Reading::Done,
-    }
 }

@@ -1,11 +1,14 @@
 // Reads images from standard input, each after two bytes that say how long it is, lowest first. A line for each: a refusal's number; or P, K
 // and T, how long the map's own image is, and how many of its bytes, and of those past it, are not as they should be.
-use image::Reading;
-use image::Written;
+use answers::Answer;
 use libc::STDIN_FILENO;
 use libc::STDOUT_FILENO;
-use multimap::ListOrderedMultimap;
-ghost use Rattle.multimap.specs.WellLinked.{WellLinked};
+use multimap::Counts;
+use multimap::KeyIndex;
+use multimap::KeyLinks;
+use multimap::Keys;
+use multimap::ValueLinks;
+use multimap::Values;
 
 // The longest image, and one byte more.
 const LONGEST: usize = 16393;
@@ -17,36 +20,36 @@ fn print_pair(member: u64, round: u64) {
     io::print_decimal(STDOUT_FILENO, round);
 }
 
-fn print_pairs(m: ListOrderedMultimap)
-    requires { ⌜ WellLinked m ⌝ }
-{
-    let mut members = [0u64; 1024];
-    let mut rounds = [0u64; 1024];
-    reading::iter(m, &mut members, &mut rounds);
-    let n = m.values_len as usize;
+#[rattlefmt::skip]
+fn print_pairs<'a>(
+    keys: &'a Keys, values: &'a Values, key_index: &'a KeyIndex, next_value: &'a ValueLinks, rounds: &'a Counts,
+) {
+    let mut first = [0u64; 1024];
+    let mut second = [0u64; 1024];
+    let mut told = [0u64; 4];
+    reading::om_iter(keys, values, key_index, next_value, rounds, &mut first, &mut second, &mut told);
+    let n = told[1];
     io::write_all(STDOUT_FILENO, b"list");
     for i in 0..1024 {
-        if i < n {
-            print_pair(members[i], rounds[i]);
+        if (i as u64) < n {
+            print_pair(first[i], second[i]);
         }
     }
 }
 
-fn print_members(m: ListOrderedMultimap)
-    requires { ⌜ WellLinked m ⌝ }
-{
-    let mut members = [0u64; 256];
-    reading::keys(m, &mut members);
-    let n = m.keys_len as usize;
+#[rattlefmt::skip]
+fn print_members<'a>(keys: &'a Keys, next_key: &'a KeyLinks, members: &'a Counts) {
+    let mut first = [0u64; 256];
+    let mut told = [0u64; 4];
+    reading::om_keys(keys, next_key, members, &mut first, &mut told);
+    let n = told[1];
     io::write_all(STDOUT_FILENO, b" keys");
     for i in 0..256 {
-        if i < n {
+        if (i as u64) < n {
             io::write_all(STDOUT_FILENO, b" ");
-            io::print_decimal(STDOUT_FILENO, members[i]);
+            io::print_decimal(STDOUT_FILENO, first[i]);
         }
     }
-    io::write_all(STDOUT_FILENO, b" taken ");
-    io::print_decimal(STDOUT_FILENO, m.taken as u64);
 }
 
 // The byte that is to stand at i: the image's, or past it 255.
@@ -54,24 +57,27 @@ fn wanted(s: &[u8], i: usize) -> u8 {
     if i < s.len() { s[i] } else { 255 }
 }
 
-fn print_written(answer: Written) {
+fn print_written(answer: Answer) {
     match answer {
-        Written::Length(n) => {
+        Answer::Count(n) => {
             io::write_all(STDOUT_FILENO, b" image ");
             io::print_decimal(STDOUT_FILENO, n);
         }
-        Written::Short => {
+        _ => {
             io::write_all(STDOUT_FILENO, b" refused 3");
         }
     }
 }
 
 // The map's image, written again.
-fn print_image(m: ListOrderedMultimap, s: &[u8])
-    requires { ⌜ WellLinked m ⌝ }
-{
+#[rattlefmt::skip]
+fn print_image<'a>(
+    keys: &'a Keys, values: &'a Values, key_index: &'a KeyIndex, next_value: &'a ValueLinks, members: &'a Counts, rounds: &'a Counts, s: &[u8],
+) {
     let mut out = [255u8; 16393];
-    let answer = image::write_image(m, &mut out);
+    let mut told = [0u64; 4];
+    image::om_write_image(keys, values, key_index, next_value, members, rounds, &mut out, &mut told);
+    let answer = answers::read(told);
     print_written(answer);
     let mut wrong: u64 = 0;
     for i in 0..LONGEST {
@@ -84,29 +90,38 @@ fn print_image(m: ListOrderedMultimap, s: &[u8])
     io::write_all(STDOUT_FILENO, b"\n");
 }
 
+#[rattlefmt::skip]
 fn show(s: &[u8]) {
-    let restored = image::read_image(s);
-    let map = restored.map;
-    let answer = restored.answer;
-    match answer {
-        Reading::TooShort => {
-            io::write_all(STDOUT_FILENO, b"refused 11\n");
-        }
-        Reading::TooMany => {
-            io::write_all(STDOUT_FILENO, b"refused 12\n");
-        }
-        Reading::WrongLength => {
-            io::write_all(STDOUT_FILENO, b"refused 13\n");
-        }
-        Reading::WrongMembers => {
-            io::write_all(STDOUT_FILENO, b"refused 14\n");
-        }
-        Reading::Done => {
-            print_pairs(map);
-            print_members(map);
-            print_image(map, s);
-        }
+    let mut keys = [0u64; 256];
+    let mut lengths = [0u16; 256];
+    let mut next_key = [0u16; 257];
+    let mut previous_key = [0u16; 257];
+    let mut values = [0u64; 1024];
+    let mut key_index = [0u16; 1024];
+    let mut next_value = [0u16; 1025];
+    let mut previous_value = [0u16; 1025];
+    let mut next_index = [0u16; 1280];
+    let mut previous_index = [0u16; 1280];
+    let mut index = [0u16; 512];
+    let mut members = [0u16; 3];
+    let mut rounds = [0u16; 3];
+    let mut taken = 0u32;
+    let mut told = [0u64; 4];
+    image::om_read_image(
+        &mut keys, &mut lengths, &mut next_key, &mut previous_key, &mut values, &mut key_index, &mut next_value,
+        &mut previous_value, &mut next_index, &mut previous_index, &mut index, &mut members, &mut rounds, &mut taken, s, &mut told,
+    );
+    if told[0] == 0 {
+        io::write_all(STDOUT_FILENO, b"refused ");
+        io::print_decimal(STDOUT_FILENO, told[1]);
+        io::write_all(STDOUT_FILENO, b"\n");
+        return;
     }
+    print_pairs(&keys, &values, &key_index, &next_value, &rounds);
+    print_members(&keys, &next_key, &members);
+    io::write_all(STDOUT_FILENO, b" taken ");
+    io::print_decimal(STDOUT_FILENO, taken as u64);
+    print_image(&keys, &values, &key_index, &next_value, &members, &rounds, s);
 }
 
 fn two_bytes(low: u8, high: u8) -> usize {

@@ -11,36 +11,48 @@ use lib.Dec.{leb}
 use lib.ListN.{length, getD, take, drop, set, length-drop, drop-of-length-le}
 use lib.Seq.{sets-eq, drop-cons, take-all, take-append-seam}
 use Rattle.steps.specs.State.{State}
-use Rattle.steps.specs.Call.{Call, Outcome, Lent, retain}
+use Rattle.steps.specs.Call.{Call, Answer, Outcome, Lent, lend, retain}
 use Rattle.steps.specs.Step.{step, over}
-use Rattle.steps.specs.Trace.{Does}
+use Rattle.steps.specs.Trace.{Kind, Does}
+use Rattle.steps.specs.Told.{Told}
+use Rattle.steps.specs.Coded.{coded, decoded}
+use Rattle.steps.proofs.Coded.{decoded-coded}
 use Rattle.steps.specs.Accounting.{isRefused}
 use Rattle.multimap.specs.Map.{stateOf}
-use Rattle.multimap.specs.WellLinked.{linked}
-use Rattle.multimap.specs.declared.ListOrderedMultimap.{ListOrderedMultimap}
+use Rattle.multimap.specs.WellLinked.{WellLinked, linked}
+use Rattle.multimap.specs.Arrays.{Arrays}
 use Rattle.parsing.specs.Line.{Line, lineOf, keeps, bad, markOf}
 use Rattle.parsing.specs.Told.{told}
 use Rattle.parsing.specs.declared.Request.{Request}
 use Rattle.parsing.proofs.Forms.{line-long}
 use Rattle.lines.specs.Put.{Put}
-use Rattle.lines.specs.Answer.{textOf, reply, answerOf, callOf}
-use Rattle.lines.specs.declared.Answered.{Answered}
+use Rattle.lines.specs.Answer.{textOf, reply, answerOf, callOf, badText}
 use Rattle.lines.specs.Said.{Said, Replied, Roomy}
 use Rattle.lines.proofs.Puts.{ToCome, put-join, put-long, come-less, come-none}
 use Rattle.lines.proofs.Sayings.{said-as}
 
+-- the answer that is read from a call's numbers is the outcome's
+read-again : {M : Kind Arrays} {c : Call} {m m′ : Arrays} {o o2 ans : List ℕ} (t : Told M c m m′ o o2 ans) {a : Answer} → a ≡ decoded ans → t .outcome .answer ≡ a
+read-again t e = sym (e ∙ ap decoded (t .ans-is) ∙ decoded-coded (t .outcome .answer))
+
 -- the outcome is that of the step, and so is its text
-pub replied : {l : Line} {c : Call} {m m′ : ListOrderedMultimap} {o : Outcome} {was out : List ℕ} {n : ℕ} (counted : Lent → ℕ → List ℕ)
-    → answerOf l (stateOf m) ≡ reply counted (step c (stateOf m)) → callOf l ≡ some c → Does linked c m o m′
-    → Said was (textOf (counted (o .slices)) (o .answer)) out n → Replied l m was out (record { map = m′; count = n })
-replied {l} {c} {m} {m′} {o} counted e f d s =
+pub replied : {l : Line} {c : Call} {m m′ : Arrays} {o o2 ans was out : List ℕ} {a : Answer} {n : ℕ} (counted : Lent → ℕ → List ℕ)
+    → answerOf l (stateOf m) ≡ reply counted (step c (stateOf m)) → callOf l ≡ some c → Told linked c m m′ o o2 ans → a ≡ decoded ans
+    → Said was (textOf (counted (lend o o2)) a) out n → Replied l m was out m′ n
+replied {l} {c} {m} {m′} {o} {o2} {ans} {was} {out} {a} counted e f t r s =
     record {
-      said = said-as s (ap (λ (o : Outcome). textOf (counted (o .slices)) (o .answer)) (d .outcome) ∙ sym (ap (λ (x : List ℕ × State). x .0) e));
+      said = said-as s (same-text ∙ ap (λ (o : Outcome). textOf (counted (o .slices)) (o .answer)) (d .outcome) ∙ sym (ap (λ (x : List ℕ × State). x .0) e));
       state = d .state ∙ sym (ap (λ (x : List ℕ × State). x .1) e);
       linked = d .linked;
       same = λ c′ g h. d .same (ap (λ (o : Outcome). isRefused (o .answer)) (d .outcome) ∙ refused-as c′ (sym f ∙ g) h);
     }
   where
+    d : Does linked c m (t .outcome) m′
+    d = t .does
+
+    same-text : textOf (counted (lend o o2)) a ≡ textOf (counted (t .outcome .slices)) (t .outcome .answer)
+    same-text = rw (t .out-is, t .out2-is, ← read-again t r)
+
     refused-as : (c′ : Call) → _≡_ {A = Option Call} (some c) (some c′) → isRefused (step c′ (stateOf m) .0 .answer) ≡ true → isRefused (step c (stateOf m) .0 .answer) ≡ true
     refused-as c′ g h = let j : c ≡ c′ = cc in rw j h
 
@@ -70,13 +82,18 @@ put-front {was} {x} {out} {r} p h =
     ap (λ (n : ℕ). take n out) e ∙ ap (take (length x)) (put-over p h) ∙ take-append-seam x (drop (length x) was)
 
 -- the same marks by another name
-pub does-marks : {m m′ : ListOrderedMultimap} {o : Outcome} {x y : List ℕ} → Does linked (retain x) m o m′ → x ≡ y → Does linked (retain y) m o m′
-does-marks d e = rw e at d
+pub told-marks : {m m′ : Arrays} {o o2 ans x y : List ℕ} → Told linked (retain x) m m′ o o2 ans → x ≡ y → Told linked (retain y) m m′ o o2 ans
+told-marks d e = rw e at d
 
 -- ---- lines
 
-pub replied-as : {l l′ : Line} (m : ListOrderedMultimap) {was out : List ℕ} {r : Answered} → Replied l m was out r → l ≡ l′ → Replied l′ m was out r
+pub replied-as : {l l′ : Line} (m : Arrays) {was out : List ℕ} {m′ : Arrays} {n : ℕ} → Replied l m was out m′ n → l ≡ l′ → Replied l′ m was out m′ n
 replied-as m p e = rw e at p
+
+-- a line that is none prints so, and leaves the map
+pub replied-bad : (m : Arrays) → WellLinked m → {was out : List ℕ} {n : ℕ} → Said was badText out n → Replied bad m was out m n
+unfolding answerOf
+replied-bad m g s = record { said = s; state = refl; linked = g; same = λ c e f. refl }
 
 -- what a form is told to be, the line is
 pub asked : {q q′ : Request} (l : List ℕ) → told q l ≡ lineOf l → q ≡ q′ → told q′ l ≡ lineOf l

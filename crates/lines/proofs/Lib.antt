@@ -2,5 +2,6 @@ pub mod Puts
 pub mod Decimals
 pub mod Runs
 pub mod Sayings
+pub mod Texts
 pub mod Calls
 pub mod Whole

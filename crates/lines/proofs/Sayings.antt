@@ -1,6 +1,6 @@
 -- Laws of the texts: how long they are, and a word with what follows it. Assumes nothing.
 use Prim.Native.Nat.{ℕ, zero, suc, _+_, _*_, _≤_, _<_, min}
-use mathlib.Core.Path.{_≡_, ap, _∙_}
+use mathlib.Core.Path.{_≡_, refl, ap, _∙_}
 use mathlib.Core.List.{List, [], _∷_, _++_}
 use native.Mathlib.Omega.{arith}
 use native.Mathlib.Nat.{suc-min-suc}
@@ -65,3 +65,7 @@ pairs-said {was} {word} {mid} {out} {at} {r} {k} s {ks′} {vs′} p n ks vs e i
 pub pair-said : {was a b c out end : List ℕ} {x y z r : ℕ} (k v : ℕ) → Put was 0 popText a x → Put a x (spaced k) b y → Put b y (spaced v) c z → Put c z end out r
     → r < maxPrinted → Said was (popText ++ (spaced k ++ (spaced v ++ end))) out r
 pair-said k v p q t u h = record { put = put-join p (put-join q (put-join t u)); room = h }
+
+-- nothing is written
+pub said-nothing : (was : List ℕ) → Said was [] was 0
+said-nothing was = record { put = record { written = refl; next = refl }; room = omega arith }

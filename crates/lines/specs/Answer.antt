@@ -13,10 +13,9 @@ use Rattle.steps.specs.Step.{step, over}
 use Rattle.steps.specs.Accounting.{isRefused}
 use Rattle.multimap.specs.Map.{stateOf}
 use Rattle.multimap.specs.WellLinked.{WellLinked}
-use Rattle.multimap.specs.declared.ListOrderedMultimap.{ListOrderedMultimap}
+use Rattle.multimap.specs.Arrays.{Arrays}
 use Rattle.parsing.specs.Line.{Line, lineOf, adds, inserts, removes, front, back, keeps, lists, members, bad}
 use Rattle.lines.specs.Text.{spaced, values, pairs}
-use Rattle.lines.specs.declared.Answered.{Answered}
 
 -- refused, new, present, old, pop, gone, stays, none, kept, list, keys, line?
 abbrev pub refusedText : List ℕ
@@ -112,20 +111,20 @@ callOf members = some (C.keys blank)
 callOf bad = Opt.none
 
 -- where the line's call is refused, the map is the very one that it was given
-abbrev pub RefusedSame : Line → ListOrderedMultimap → ListOrderedMultimap → Type 0
+abbrev pub RefusedSame : Line → Arrays → Arrays → Type 0
 RefusedSame l m m′ = (c : Call) → callOf l ≡ some c → isRefused (step c (stateOf m) .0 .answer) ≡ true → m′ ≡ m
 
 -- the bytes that a line prints, with their line end
 abbrev pub printed : List ℕ → State → List ℕ
 printed line s = answerOf (lineOf line) s .0 ++ (10 ∷ [])
 
--- what answering a line does: the printed bytes are at the front of `out`, the others are kept, and they are counted; the map given back
--- is well-linked and has the state after the line, and a refused line gives back its very map
-pub record Answers (line : List ℕ) (m : ListOrderedMultimap) (was out : List ℕ) (r : Answered) : Type 0 where
+-- what answering a line does: the n printed bytes are at the front of `out`, the others are kept; the map m′ that is left is well-linked and
+-- has the state after the line, and a refused line leaves the very map
+pub record Answers (line : List ℕ) (m : Arrays) (was out : List ℕ) (m′ : Arrays) (n : ℕ) : Type 0 where
   pub bytes : out ≡ over (printed line (stateOf m)) was
-  pub count : r .count ≡ length (printed line (stateOf m))
-  pub room : r .count ≤ length out
-  pub most : r .count ≤ 43013
-  pub state : stateOf (r .map) ≡ answerOf (lineOf line) (stateOf m) .1
-  pub linked : WellLinked (r .map)
-  pub same : RefusedSame (lineOf line) m (r .map)
+  pub count : n ≡ length (printed line (stateOf m))
+  pub room : n ≤ length out
+  pub most : n ≤ 43013
+  pub state : stateOf m′ ≡ answerOf (lineOf line) (stateOf m) .1
+  pub linked : WellLinked m′
+  pub same : RefusedSame (lineOf line) m m′

@@ -1,23 +1,17 @@
-// How each kind of answer is printed.
+// How an answer is printed: by itself, or with what a call wrote to its slices.
 use crate::printing::put;
 use crate::printing::put_after;
 use crate::printing::put_pairs;
 use crate::printing::put_values;
-use changing::adding::Added;
-use changing::inserting::InsertedAll;
-use changing::removing::Kept;
-use changing::removing::Popped;
-use multimap::Counted;
+use answers::Answer;
 ghost use Prim.Native.Nat.{_≤_, min};
 ghost use mathlib.Core.Path.{_≡_};
+ghost use mathlib.Core.Bool.{cond};
 ghost use mathlib.Core.List.{[], _++_};
 ghost use Rattle.lines.specs.Text as Text;
 ghost use lib.ListN.{length};
 ghost use Rattle.steps.specs.Call.{lend, popped};
-ghost use Rattle.multimap.specs.Answers.{countedOf};
-ghost use Rattle.changing.specs.AddingAnswer.{addedOf};
-ghost use Rattle.changing.specs.InsertingAnswer.{insertedAllOf};
-ghost use Rattle.changing.specs.RemovingAnswer.{poppedOf, keptOf};
+ghost use Rattle.answers.specs.Answers.{answerOf};
 ghost use Rattle.lines.specs.Answer as Reply;
 ghost use Rattle.lines.specs.Said.{Said, Roomy};
 
@@ -42,27 +36,14 @@ fn print_number(out: &mut [u8], word: &[u8], n: u64) -> usize
     put_after(out, at, b' ', n)
 }
 
-pub(crate) fn print_refused(out: &mut [u8], n: u64) -> usize
+fn print_present(out: &mut [u8], was: bool) -> usize
     requires { ⌜ Roomy (now out) ⌝ }
-    ensures { λ r. ⌜ Said (now (out .entry)) (Reply.refusedText ++ Text.spaced n) (now (out .exit)) r ⌝ }
+    ensures { λ r. ⌜ Said (now (out .entry)) (cond was Reply.presentText Reply.newText) (now (out .exit)) r ⌝ }
 {
-    print_number(out, b"refused", n)
-}
-
-pub(crate) fn print_added(out: &mut [u8], answer: Added) -> usize
-    requires { ⌜ Roomy (now out) ⌝ }
-    ensures { λ r. ⌜ Said (now (out .entry)) (Reply.textOf (Reply.kept (lend [] [])) (addedOf answer)) (now (out .exit)) r ⌝ }
-{
-    match answer {
-        Added::Present(was) => {
-            if was {
-                print_word(out, b"present")
-            } else {
-                print_word(out, b"new")
-            }
-        }
-        Added::Full => print_refused(out, 1),
-        Added::Crowded => print_refused(out, 2),
+    if was {
+        print_word(out, b"present")
+    } else {
+        print_word(out, b"new")
     }
 }
 
@@ -81,61 +62,47 @@ fn print_pair(out: &mut [u8], k: u64, v: u64, gone: bool) -> usize
     }
 }
 
-pub(crate) fn print_popped(out: &mut [u8], answer: Popped) -> usize
+// Prints an answer; a count is of the rounds kept. The last four are no line's answers.
+pub(crate) fn print_answer(out: &mut [u8], answer: Answer) -> usize
     requires { ⌜ Roomy (now out) ⌝ }
-    ensures { λ r. ⌜ Said (now (out .entry)) (Reply.textOf (Reply.kept (lend [] [])) (poppedOf answer)) (now (out .exit)) r ⌝ }
+    ensures { λ r. ⌜ Said (now (out .entry)) (Reply.textOf (Reply.kept (lend [] [])) (answerOf answer)) (now (out .exit)) r ⌝ }
 {
     match answer {
-        Popped::Nothing => print_word(out, b"none"),
-        Popped::Pair(k, v, gone) => print_pair(out, k, v, gone),
-    }
-}
-
-pub(crate) fn print_kept(out: &mut [u8], answer: Kept) -> usize
-    requires { ⌜ Roomy (now out) ⌝ }
-    ensures { λ r. ⌜ Said (now (out .entry)) (Reply.textOf (Reply.kept (lend [] [])) (keptOf answer)) (now (out .exit)) r ⌝ }
-{
-    match answer {
-        Kept::Count(n) => print_number(out, b"kept", n as u64),
-        Kept::MarksCount => print_refused(out, 7),
-        Kept::MarkValue => print_refused(out, 8),
+        Answer::Refused(n) => print_number(out, b"refused", n),
+        Answer::Nothing => print_word(out, b"none"),
+        Answer::Count(n) => print_number(out, b"kept", n),
+        Answer::Present(was) => print_present(out, was),
+        Answer::Popped(k, v, gone) => print_pair(out, k, v, gone),
+        Answer::Done => 0,
+        Answer::Round(_) => 0,
+        Answer::Occupied(_) => 0,
+        Answer::Vacant(_) => 0,
     }
 }
 
 // `old`, the count and the rounds.
-fn print_old(out: &mut [u8], n: u16, rounds: &[u64]) -> usize
+fn print_rounds(out: &mut [u8], n: u64, rounds: &[u64]) -> usize
     requires { ⌜ Roomy (now out) × (length (now rounds) ≤ 1024) ⌝ }
     ensures { λ r. ⌜ Said (now (out .entry)) (Reply.old (lend (now (rounds .entry)) []) n) (now (out .exit)) r ⌝ }
 {
-    let at = print_number(out, b"old", n as u64);
+    let at = print_number(out, b"old", n);
     let many = least(n as usize, rounds.len());
     put_values(out, at, &rounds[..many])
 }
 
-pub(crate) fn print_inserted(out: &mut [u8], answer: InsertedAll, rounds: &[u64]) -> usize
+// Prints an answer that counts the rounds written out.
+pub(crate) fn print_old(out: &mut [u8], answer: Answer, rounds: &[u64]) -> usize
     requires { ⌜ Roomy (now out) × (length (now rounds) ≤ 1024) ⌝ }
-    ensures { λ r. ⌜ Said (now (out .entry)) (Reply.textOf (Reply.old (lend (now (rounds .entry)) [])) (insertedAllOf answer)) (now (out .exit)) r ⌝ }
+    ensures { λ r. ⌜ Said (now (out .entry)) (Reply.textOf (Reply.old (lend (now (rounds .entry)) [])) (answerOf answer)) (now (out .exit)) r ⌝ }
 {
-    match answer {
-        InsertedAll::Count(n) => print_old(out, n, rounds),
-        InsertedAll::Full => print_refused(out, 1),
-        InsertedAll::Crowded => print_refused(out, 2),
-        InsertedAll::Short => print_refused(out, 3),
-    }
-}
-
-pub(crate) fn print_removed(out: &mut [u8], answer: Counted, rounds: &[u64]) -> usize
-    requires { ⌜ Roomy (now out) × (length (now rounds) ≤ 1024) ⌝ }
-    ensures { λ r. ⌜ Said (now (out .entry)) (Reply.textOf (Reply.old (lend (now (rounds .entry)) [])) (countedOf answer)) (now (out .exit)) r ⌝ }
-{
-    match answer {
-        Counted::Count(n) => print_old(out, n, rounds),
-        Counted::Short => print_refused(out, 3),
-    }
+    let Answer::Count(n) = answer else {
+        return print_answer(out, answer);
+    };
+    print_rounds(out, n, rounds)
 }
 
 // `keys` and the members.
-fn print_keys(out: &mut [u8], n: u16, members: &[u64]) -> usize
+fn print_keys(out: &mut [u8], n: u64, members: &[u64]) -> usize
     requires { ⌜ Roomy (now out) × (length (now members) ≤ 1024) ⌝ }
     ensures { λ r. ⌜ Said (now (out .entry)) (Reply.keyed (lend (now (members .entry)) []) n) (now (out .exit)) r ⌝ }
 {
@@ -144,18 +111,19 @@ fn print_keys(out: &mut [u8], n: u16, members: &[u64]) -> usize
     put_values(out, at, &members[..many])
 }
 
-pub(crate) fn print_members(out: &mut [u8], answer: Counted, members: &[u64]) -> usize
+// Prints an answer that counts the members written out.
+pub(crate) fn print_members(out: &mut [u8], answer: Answer, members: &[u64]) -> usize
     requires { ⌜ Roomy (now out) × (length (now members) ≤ 1024) ⌝ }
-    ensures { λ r. ⌜ Said (now (out .entry)) (Reply.textOf (Reply.keyed (lend (now (members .entry)) [])) (countedOf answer)) (now (out .exit)) r ⌝ }
+    ensures { λ r. ⌜ Said (now (out .entry)) (Reply.textOf (Reply.keyed (lend (now (members .entry)) [])) (answerOf answer)) (now (out .exit)) r ⌝ }
 {
-    match answer {
-        Counted::Count(n) => print_keys(out, n, members),
-        Counted::Short => print_refused(out, 3),
-    }
+    let Answer::Count(n) = answer else {
+        return print_answer(out, answer);
+    };
+    print_keys(out, n, members)
 }
 
 // `list` and the pairs.
-fn print_list(out: &mut [u8], n: u16, members: &[u64], rounds: &[u64]) -> usize
+fn print_list(out: &mut [u8], n: u64, members: &[u64], rounds: &[u64]) -> usize
     requires { ⌜ Roomy (now out) × (length (now members) ≤ 1024) × (length (now members) ≡ length (now rounds)) ⌝ }
     ensures { λ r. ⌜ Said (now (out .entry)) (Reply.listed (lend (now (members .entry)) (now (rounds .entry))) n) (now (out .exit)) r ⌝ }
 {
@@ -164,12 +132,13 @@ fn print_list(out: &mut [u8], n: u16, members: &[u64], rounds: &[u64]) -> usize
     put_pairs(out, at, &members[..many], &rounds[..many])
 }
 
-pub(crate) fn print_pairs(out: &mut [u8], answer: Counted, members: &[u64], rounds: &[u64]) -> usize
+// Prints an answer that counts the pairs written out.
+pub(crate) fn print_pairs(out: &mut [u8], answer: Answer, members: &[u64], rounds: &[u64]) -> usize
     requires { ⌜ Roomy (now out) × (length (now members) ≤ 1024) × (length (now members) ≡ length (now rounds)) ⌝ }
-    ensures { λ r. ⌜ Said (now (out .entry)) (Reply.textOf (Reply.listed (lend (now (members .entry)) (now (rounds .entry)))) (countedOf answer)) (now (out .exit)) r ⌝ }
+    ensures { λ r. ⌜ Said (now (out .entry)) (Reply.textOf (Reply.listed (lend (now (members .entry)) (now (rounds .entry)))) (answerOf answer)) (now (out .exit)) r ⌝ }
 {
-    match answer {
-        Counted::Count(n) => print_list(out, n, members, rounds),
-        Counted::Short => print_refused(out, 3),
-    }
+    let Answer::Count(n) = answer else {
+        return print_answer(out, answer);
+    };
+    print_list(out, n, members, rounds)
 }

@@ -1,81 +1,191 @@
-// The call of each kind of line, and its answer printed. The out slices that are lent are as long as any result.
-use crate::Answered;
+// The call of each kind of line, in place, and its answer printed. The out slices that are lent are as long as any result.
 use crate::answering::least;
-use crate::answering::print_added;
-use crate::answering::print_inserted;
-use crate::answering::print_kept;
+use crate::answering::print_answer;
 use crate::answering::print_members;
+use crate::answering::print_old;
 use crate::answering::print_pairs;
-use crate::answering::print_popped;
-use crate::answering::print_removed;
 use crate::answering::print_word;
-use multimap::ListOrderedMultimap;
+use multimap::Counts;
+use multimap::Index;
+use multimap::IndexLinks;
+use multimap::KeyIndex;
+use multimap::KeyLinks;
+use multimap::Keys;
+use multimap::Lengths;
+use multimap::ValueLinks;
+use multimap::Values;
 use parsing::Request;
 ghost use Prim.Native.Nat.{_≤_};
 ghost use mathlib.Core.Path.{_≡_};
 ghost use mathlib.Core.List.{map};
 ghost use lib.ListN.{length};
+ghost use Rattle.multimap.specs.Arrays.{Arrays};
+ghost use Rattle.multimap.specs.Lent.{lent, left};
 ghost use Rattle.multimap.specs.WellLinked.{WellLinked};
 ghost use Rattle.parsing.specs.Line as Line;
-ghost use Rattle.parsing.specs.Told.{told};
+ghost use Rattle.parsing.specs.Told.{told as toldOf};
 ghost use Rattle.lines.specs.Put.{Put};
-ghost use Rattle.lines.specs.Said.{Roomy, Replied};
+ghost use Rattle.lines.specs.Said.{Roomy, Replied, Shows};
 
-fn adds(m: ListOrderedMultimap, k: u64, v: u64, out: &mut [u8]) -> Answered
-    requires { ⌜ WellLinked m × Roomy (now out) ⌝ }
-    ensures { λ r. ⌜ Replied (Line.adds k v) m (now (out .entry)) (now (out .exit)) r ⌝ }
+// Does what the line asks, and prints its answer.
+#[rattlefmt::skip]
+pub(crate) fn ask(
+    keys: &mut Keys, lengths: &mut Lengths, next_key: &mut KeyLinks, previous_key: &mut KeyLinks,
+    values: &mut Values, key_index: &mut KeyIndex, next_value: &mut ValueLinks, previous_value: &mut ValueLinks,
+    next_index: &mut IndexLinks, previous_index: &mut IndexLinks, index: &mut Index,
+    members: &mut Counts, rounds: &mut Counts, taken: &mut u32,
+    request: Request, line: &[u8], out: &mut [u8],
+) -> usize
+    ghost { Arrays }
+    requires { λ α. ⌜ lent keys lengths «next_key» «previous_key» values «key_index» «next_value» «previous_value» «next_index» «previous_index» index members rounds taken ≡ α ⌝ }
+    requires { λ α. ⌜ WellLinked α × Roomy (now out) × (toldOf request (now line) ≡ Line.lineOf (now line)) ⌝ }
+    ensures { λ α r. ⌜ Replied (Line.lineOf (now (line .entry))) α (now (out .entry)) (now (out .exit)) (left keys lengths «next_key» «previous_key» values «key_index» «next_value» «previous_value» «next_index» «previous_index» index members rounds taken) r ⌝ }
 {
-    let done = ordered_multimap::append(m, k, v);
-    let answer = done.answer;
-    let count = print_added(out, answer);
-    let map = done.map;
-    Answered { map, count }
+    match request {
+        Request::Adds(k, v) => adds(
+            keys, lengths, next_key, previous_key, values, key_index, next_value, previous_value,
+            next_index, previous_index, index, members, rounds, taken, k, v, out,
+        ),
+        Request::Inserts(k, v) => inserts(
+            keys, lengths, next_key, previous_key, values, key_index, next_value, previous_value,
+            next_index, previous_index, index, members, rounds, taken, k, v, out,
+        ),
+        Request::Removes(k) => removes(
+            keys, lengths, next_key, previous_key, values, key_index, next_value, previous_value,
+            next_index, previous_index, index, members, rounds, taken, k, out,
+        ),
+        Request::Front => front(
+            keys, lengths, next_key, previous_key, values, key_index, next_value, previous_value,
+            next_index, previous_index, index, members, rounds, taken, out,
+        ),
+        Request::Back => back(
+            keys, lengths, next_key, previous_key, values, key_index, next_value, previous_value,
+            next_index, previous_index, index, members, rounds, taken, out,
+        ),
+        Request::Keeps => {
+            let from = least(2, line.len());
+            let bytes = &line[from..];
+            keeps(
+                keys, lengths, next_key, previous_key, values, key_index, next_value, previous_value,
+                next_index, previous_index, index, members, rounds, taken, bytes, out,
+            )
+        }
+        Request::Lists => lists(keys, values, key_index, next_value, rounds, out),
+        Request::Members => members_line(keys, next_key, members, out),
+        Request::Bad => print_word(out, b"line?"),
+    }
 }
 
-fn inserts(m: ListOrderedMultimap, k: u64, v: u64, out: &mut [u8]) -> Answered
-    requires { ⌜ WellLinked m × Roomy (now out) ⌝ }
-    ensures { λ r. ⌜ Replied (Line.inserts k v) m (now (out .entry)) (now (out .exit)) r ⌝ }
+#[rattlefmt::skip]
+fn adds(
+    keys: &mut Keys, lengths: &mut Lengths, next_key: &mut KeyLinks, previous_key: &mut KeyLinks,
+    values: &mut Values, key_index: &mut KeyIndex, next_value: &mut ValueLinks, previous_value: &mut ValueLinks,
+    next_index: &mut IndexLinks, previous_index: &mut IndexLinks, index: &mut Index,
+    members: &mut Counts, rounds: &mut Counts, taken: &mut u32,
+    k: u64, v: u64, out: &mut [u8],
+) -> usize
+    ghost { Arrays }
+    requires { λ α. ⌜ lent keys lengths «next_key» «previous_key» values «key_index» «next_value» «previous_value» «next_index» «previous_index» index members rounds taken ≡ α ⌝ }
+    requires { λ α. ⌜ WellLinked α × Roomy (now out) ⌝ }
+    ensures { λ α r. ⌜ Replied (Line.adds k v) α (now (out .entry)) (now (out .exit)) (left keys lengths «next_key» «previous_key» values «key_index» «next_value» «previous_value» «next_index» «previous_index» index members rounds taken) r ⌝ }
 {
-    let mut rounds = [0u64; 1024];
-    let done = ordered_multimap::insert_all(m, k, v, &mut rounds);
-    let answer = done.answer;
-    let count = print_inserted(out, answer, &rounds);
-    let map = done.map;
-    Answered { map, count }
+    let mut told = [0u64; 4];
+    adding::om_append(
+        keys, lengths, next_key, previous_key, values, key_index, next_value, previous_value,
+        next_index, previous_index, index, members, rounds, taken, k, v, &mut told,
+    );
+    let answer = answers::read(told);
+    print_answer(out, answer)
 }
 
-fn removes(m: ListOrderedMultimap, k: u64, out: &mut [u8]) -> Answered
-    requires { ⌜ WellLinked m × Roomy (now out) ⌝ }
-    ensures { λ r. ⌜ Replied (Line.removes k) m (now (out .entry)) (now (out .exit)) r ⌝ }
+#[rattlefmt::skip]
+fn inserts(
+    keys: &mut Keys, lengths: &mut Lengths, next_key: &mut KeyLinks, previous_key: &mut KeyLinks,
+    values: &mut Values, key_index: &mut KeyIndex, next_value: &mut ValueLinks, previous_value: &mut ValueLinks,
+    next_index: &mut IndexLinks, previous_index: &mut IndexLinks, index: &mut Index,
+    members: &mut Counts, rounds: &mut Counts, taken: &mut u32,
+    k: u64, v: u64, out: &mut [u8],
+) -> usize
+    ghost { Arrays }
+    requires { λ α. ⌜ lent keys lengths «next_key» «previous_key» values «key_index» «next_value» «previous_value» «next_index» «previous_index» index members rounds taken ≡ α ⌝ }
+    requires { λ α. ⌜ WellLinked α × Roomy (now out) ⌝ }
+    ensures { λ α r. ⌜ Replied (Line.inserts k v) α (now (out .entry)) (now (out .exit)) (left keys lengths «next_key» «previous_key» values «key_index» «next_value» «previous_value» «next_index» «previous_index» index members rounds taken) r ⌝ }
 {
-    let mut rounds = [0u64; 1024];
-    let done = ordered_multimap::remove_all(m, k, &mut rounds);
-    let answer = done.answer;
-    let count = print_removed(out, answer, &rounds);
-    let map = done.map;
-    Answered { map, count }
+    let mut told = [0u64; 4];
+    let mut old = [0u64; 1024];
+    inserting::om_insert_all(
+        keys, lengths, next_key, previous_key, values, key_index, next_value, previous_value,
+        next_index, previous_index, index, members, rounds, taken, k, v, &mut old, &mut told,
+    );
+    let answer = answers::read(told);
+    print_old(out, answer, &old)
 }
 
-fn front(m: ListOrderedMultimap, out: &mut [u8]) -> Answered
-    requires { ⌜ WellLinked m × Roomy (now out) ⌝ }
-    ensures { λ r. ⌜ Replied Line.front m (now (out .entry)) (now (out .exit)) r ⌝ }
+#[rattlefmt::skip]
+fn removes(
+    keys: &mut Keys, lengths: &mut Lengths, next_key: &mut KeyLinks, previous_key: &mut KeyLinks,
+    values: &mut Values, key_index: &mut KeyIndex, next_value: &mut ValueLinks, previous_value: &mut ValueLinks,
+    next_index: &mut IndexLinks, previous_index: &mut IndexLinks, index: &mut Index,
+    members: &mut Counts, rounds: &mut Counts, taken: &mut u32,
+    k: u64, out: &mut [u8],
+) -> usize
+    ghost { Arrays }
+    requires { λ α. ⌜ lent keys lengths «next_key» «previous_key» values «key_index» «next_value» «previous_value» «next_index» «previous_index» index members rounds taken ≡ α ⌝ }
+    requires { λ α. ⌜ WellLinked α × Roomy (now out) ⌝ }
+    ensures { λ α r. ⌜ Replied (Line.removes k) α (now (out .entry)) (now (out .exit)) (left keys lengths «next_key» «previous_key» values «key_index» «next_value» «previous_value» «next_index» «previous_index» index members rounds taken) r ⌝ }
 {
-    let done = ordered_multimap::pop_front(m);
-    let answer = done.answer;
-    let count = print_popped(out, answer);
-    let map = done.map;
-    Answered { map, count }
+    let mut told = [0u64; 4];
+    let mut old = [0u64; 1024];
+    removing::om_remove_all(
+        keys, lengths, next_key, previous_key, values, key_index, next_value, previous_value,
+        next_index, previous_index, index, members, rounds, taken, k, &mut old, &mut told,
+    );
+    let answer = answers::read(told);
+    print_old(out, answer, &old)
 }
 
-fn back(m: ListOrderedMultimap, out: &mut [u8]) -> Answered
-    requires { ⌜ WellLinked m × Roomy (now out) ⌝ }
-    ensures { λ r. ⌜ Replied Line.back m (now (out .entry)) (now (out .exit)) r ⌝ }
+#[rattlefmt::skip]
+fn front(
+    keys: &mut Keys, lengths: &mut Lengths, next_key: &mut KeyLinks, previous_key: &mut KeyLinks,
+    values: &mut Values, key_index: &mut KeyIndex, next_value: &mut ValueLinks, previous_value: &mut ValueLinks,
+    next_index: &mut IndexLinks, previous_index: &mut IndexLinks, index: &mut Index,
+    members: &mut Counts, rounds: &mut Counts, taken: &mut u32,
+    out: &mut [u8],
+) -> usize
+    ghost { Arrays }
+    requires { λ α. ⌜ lent keys lengths «next_key» «previous_key» values «key_index» «next_value» «previous_value» «next_index» «previous_index» index members rounds taken ≡ α ⌝ }
+    requires { λ α. ⌜ WellLinked α × Roomy (now out) ⌝ }
+    ensures { λ α r. ⌜ Replied (Line.front) α (now (out .entry)) (now (out .exit)) (left keys lengths «next_key» «previous_key» values «key_index» «next_value» «previous_value» «next_index» «previous_index» index members rounds taken) r ⌝ }
 {
-    let done = ordered_multimap::pop_back(m);
-    let answer = done.answer;
-    let count = print_popped(out, answer);
-    let map = done.map;
-    Answered { map, count }
+    let mut told = [0u64; 4];
+    removing::om_pop_front(
+        keys, lengths, next_key, previous_key, values, key_index, next_value, previous_value,
+        next_index, previous_index, index, members, rounds, taken, &mut told,
+    );
+    let answer = answers::read(told);
+    print_answer(out, answer)
+}
+
+#[rattlefmt::skip]
+fn back(
+    keys: &mut Keys, lengths: &mut Lengths, next_key: &mut KeyLinks, previous_key: &mut KeyLinks,
+    values: &mut Values, key_index: &mut KeyIndex, next_value: &mut ValueLinks, previous_value: &mut ValueLinks,
+    next_index: &mut IndexLinks, previous_index: &mut IndexLinks, index: &mut Index,
+    members: &mut Counts, rounds: &mut Counts, taken: &mut u32,
+    out: &mut [u8],
+) -> usize
+    ghost { Arrays }
+    requires { λ α. ⌜ lent keys lengths «next_key» «previous_key» values «key_index» «next_value» «previous_value» «next_index» «previous_index» index members rounds taken ≡ α ⌝ }
+    requires { λ α. ⌜ WellLinked α × Roomy (now out) ⌝ }
+    ensures { λ α r. ⌜ Replied (Line.back) α (now (out .entry)) (now (out .exit)) (left keys lengths «next_key» «previous_key» values «key_index» «next_value» «previous_value» «next_index» «previous_index» index members rounds taken) r ⌝ }
+{
+    let mut told = [0u64; 4];
+    removing::om_pop_back(
+        keys, lengths, next_key, previous_key, values, key_index, next_value, previous_value,
+        next_index, previous_index, index, members, rounds, taken, &mut told,
+    );
+    let answer = answers::read(told);
+    print_answer(out, answer)
 }
 
 fn mark(b: u8) -> u8
@@ -84,7 +194,7 @@ fn mark(b: u8) -> u8
     if b == b'1' { 1 } else { 0 }
 }
 
-// The marks that the characters say.
+// Copies the marks that the characters say.
 fn copy_marks(marks: &mut [u8], bytes: &[u8]) -> usize
     requires { ⌜ length (now bytes) ≤ length (now marks) ⌝ }
     ensures { λ r. ⌜ Put (now (marks .entry)) 0 (map Line.markOf (now (bytes .entry))) (now (marks .exit)) r ⌝ }
@@ -97,66 +207,72 @@ fn copy_marks(marks: &mut [u8], bytes: &[u8]) -> usize
     i
 }
 
-fn keeps(m: ListOrderedMultimap, bytes: &[u8], out: &mut [u8]) -> Answered
-    requires { ⌜ WellLinked m × Roomy (now out) × (length (now bytes) ≤ 1100) ⌝ }
-    ensures { λ r. ⌜ Replied (Line.keeps (map Line.markOf (now (bytes .entry)))) m (now (out .entry)) (now (out .exit)) r ⌝ }
+#[rattlefmt::skip]
+fn keeps(
+    keys: &mut Keys, lengths: &mut Lengths, next_key: &mut KeyLinks, previous_key: &mut KeyLinks,
+    values: &mut Values, key_index: &mut KeyIndex, next_value: &mut ValueLinks, previous_value: &mut ValueLinks,
+    next_index: &mut IndexLinks, previous_index: &mut IndexLinks, index: &mut Index,
+    members: &mut Counts, rounds: &mut Counts, taken: &mut u32,
+    bytes: &[u8], out: &mut [u8],
+) -> usize
+    ghost { Arrays }
+    requires { λ α. ⌜ lent keys lengths «next_key» «previous_key» values «key_index» «next_value» «previous_value» «next_index» «previous_index» index members rounds taken ≡ α ⌝ }
+    requires { λ α. ⌜ WellLinked α × Roomy (now out) × (length (now bytes) ≤ 1100) ⌝ }
+    ensures { λ α r. ⌜ Replied (Line.keeps (map Line.markOf (now (bytes .entry)))) α (now (out .entry)) (now (out .exit)) (left keys lengths «next_key» «previous_key» values «key_index» «next_value» «previous_value» «next_index» «previous_index» index members rounds taken) r ⌝ }
 {
+    let mut told = [0u64; 4];
     let mut marks = [0u8; 1100];
     let n = copy_marks(&mut marks, bytes);
-    let done = ordered_multimap::retain(m, &marks[..n]);
-    let answer = done.answer;
-    let count = print_kept(out, answer);
-    let map = done.map;
-    Answered { map, count }
+    retaining::om_retain(
+        keys, lengths, next_key, previous_key, values, key_index, next_value, previous_value,
+        next_index, previous_index, index, members, rounds, taken, &marks[..n], &mut told,
+    );
+    let answer = answers::read(told);
+    print_answer(out, answer)
 }
 
-fn lists(m: ListOrderedMultimap, out: &mut [u8]) -> Answered
-    requires { ⌜ WellLinked m × Roomy (now out) ⌝ }
-    ensures { λ r. ⌜ Replied Line.lists m (now (out .entry)) (now (out .exit)) r ⌝ }
+fn lists<'a>(
+    keys: &'a Keys,
+    values: &'a Values,
+    key_index: &'a KeyIndex,
+    next_value: &'a ValueLinks,
+    rounds: &'a Counts,
+    out: &mut [u8],
+) -> usize
+    requires { ⌜ Roomy (now out) ⌝ }
+    ensures { λ r. ⌜ Shows Line.lists (now (out .entry)) (now (out .exit)) r (λ α. (now (keys .entry) ≡ α .keys) × (now (values .entry) ≡ α .values)
+        × (now («key_index» .entry) ≡ α .«key_index») × (now («next_value» .entry) ≡ α .«next_value») × (now (rounds .entry) ≡ α .rounds)) ⌝ }
 {
-    let mut members = [0u64; 1024];
-    let mut rounds = [0u64; 1024];
-    let answer = ordered_multimap::iter(m, &mut members, &mut rounds);
-    let count = print_pairs(out, answer, &members, &rounds);
-    Answered { map: m, count }
+    let mut told = [0u64; 4];
+    let mut first = [0u64; 1024];
+    let mut second = [0u64; 1024];
+    reading::om_iter(
+        keys,
+        values,
+        key_index,
+        next_value,
+        rounds,
+        &mut first,
+        &mut second,
+        &mut told,
+    );
+    let answer = answers::read(told);
+    print_pairs(out, answer, &first, &second)
 }
 
-fn members(m: ListOrderedMultimap, out: &mut [u8]) -> Answered
-    requires { ⌜ WellLinked m × Roomy (now out) ⌝ }
-    ensures { λ r. ⌜ Replied Line.members m (now (out .entry)) (now (out .exit)) r ⌝ }
+fn members_line<'a>(
+    keys: &'a Keys,
+    next_key: &'a KeyLinks,
+    members: &'a Counts,
+    out: &mut [u8],
+) -> usize
+    requires { ⌜ Roomy (now out) ⌝ }
+    ensures { λ r. ⌜ Shows Line.members (now (out .entry)) (now (out .exit)) r (λ α. (now (keys .entry) ≡ α .keys) × (now («next_key» .entry) ≡ α .«next_key»)
+        × (now (members .entry) ≡ α .members)) ⌝ }
 {
-    let mut members = [0u64; 1024];
-    let answer = ordered_multimap::keys(m, &mut members);
-    let count = print_members(out, answer, &members);
-    Answered { map: m, count }
-}
-
-fn bad(m: ListOrderedMultimap, out: &mut [u8]) -> Answered
-    requires { ⌜ WellLinked m × Roomy (now out) ⌝ }
-    ensures { λ r. ⌜ Replied Line.bad m (now (out .entry)) (now (out .exit)) r ⌝ }
-{
-    let count = print_word(out, b"line?");
-    Answered { map: m, count }
-}
-
-// What the line asks, done and printed.
-pub(crate) fn ask(m: ListOrderedMultimap, request: Request, line: &[u8], out: &mut [u8]) -> Answered
-    requires { ⌜ WellLinked m × Roomy (now out) × (told request (now line) ≡ Line.lineOf (now line)) ⌝ }
-    ensures { λ r. ⌜ Replied (Line.lineOf (now (line .entry))) m (now (out .entry)) (now (out .exit)) r ⌝ }
-{
-    match request {
-        Request::Adds(k, v) => adds(m, k, v, out),
-        Request::Inserts(k, v) => inserts(m, k, v, out),
-        Request::Removes(k) => removes(m, k, out),
-        Request::Front => front(m, out),
-        Request::Back => back(m, out),
-        Request::Keeps => {
-            let from = least(2, line.len());
-            let bytes = &line[from..];
-            keeps(m, bytes, out)
-        }
-        Request::Lists => lists(m, out),
-        Request::Members => members(m, out),
-        Request::Bad => bad(m, out),
-    }
+    let mut told = [0u64; 4];
+    let mut first = [0u64; 1024];
+    reading::om_keys(keys, next_key, members, &mut first, &mut told);
+    let answer = answers::read(told);
+    print_members(out, answer, &first)
 }

@@ -1,138 +1,97 @@
 -- The stores that put a member or a round at the back, and what they make of the links. Assumes nothing.
-use Prim.Native.Nat.{ℕ, _+_, _≤_, _<_}
-use mathlib.Core.Path.{_≡_, refl}
+use Prim.Native.Nat.{ℕ, _+_, _≤_, _<_, min}
+use mathlib.Core.Path.{_≡_, refl, ap, _∙_}
 use mathlib.Core.List.{List}
 use native.Mathlib.Omega.{arith}
-use lib.ListN.{set}
-use Rattle.links.specs.Places.{put}
-use Rattle.links.specs.Links.{Links}
-use Rattle.index.specs.declared.KeyPlace.{KeyPlace}
-use Rattle.multimap.specs.declared.ValuePlace.{ValuePlace}
-use Rattle.multimap.specs.declared.ListOrderedMultimap.{ListOrderedMultimap}
-use Rattle.multimap.specs.Map.{at, keyAt, valueAt, roundsOf, membersOf, linksOf}
-use Rattle.multimap.proofs.Stores.{at-set, key-set, key-set₂, value-set, value-set₂, Sized, places-eq, links-eq}
+use lib.Dec.{eqb}
+use lib.ListN.{set, length-set}
+use Rattle.links.specs.Stores.{up, spot}
+use Rattle.links.specs.Path.{pick}
+use Rattle.links.specs.Places.{put, Places, vacancy, Linked}
+use Rattle.links.specs.Links.{Links, Chained, added, joined}
+use Rattle.multimap.specs.Arrays.{Arrays, Sized}
+use Rattle.multimap.specs.Changes.{baseOf, withMember, withRound}
+use Rattle.multimap.specs.Map.{at, roundsOf, membersOf, linksOf}
+use Rattle.multimap.proofs.Stores.{at-set, at-set₂, places-eq, links-eq}
 
--- ---- a member
+up-is : (n : ℕ) → n < 65535 → up n ≡ n + 1
+up-is n h = omega arith
 
-module _ (m : ListOrderedMultimap) (key k len fresh : ℕ) (free : KeyPlace) (index : List ℕ) where
-  abbrev last-key : ℕ
-  last-key = keyAt (m .«previous_key») 256
+pub base-is : (k : ℕ) → k < 256 → baseOf k ≡ 1024 + k
+base-is k h = omega arith
 
-  -- the member k in the member place `key`, after the last member, with an empty record
-  abbrev pub with-member : ListOrderedMultimap
-  with-member =
-      record {
-        keys = set (m .keys) key k;
-        length = set (m .length) key 0;
-        «next_key» = set (set (m .«next_key») last-key (record { 0 = key })) key (record { 0 = 256 });
-        «previous_key» = set (set (m .«previous_key») key (record { 0 = last-key })) 256 (record { 0 = key });
-        values = m .values;
-        «key_index» = m .«key_index»;
-        «next_value» = m .«next_value»;
-        «previous_value» = m .«previous_value»;
-        «next_index» = set (m .«next_index») (1024 + key) (record { 0 = 1024 + key });
-        «previous_index» = set (m .«previous_index») (1024 + key) (record { 0 = 1024 + key });
-        index = index;
-        «keys_len» = len;
-        «keys_fresh» = fresh;
-        «keys_free» = free;
-        «values_len» = m .«values_len»;
-        «values_fresh» = m .«values_fresh»;
-        «values_free» = m .«values_free»;
-        taken = m .taken;
-      }
+-- how many have ever been
+pub fresh-is : (l f : ℕ) → f < 65535 → pick (eqb l f) (up f) f ≡ pick (eqb l f) (f + 1) f
+fresh-is l f h = ap (λ (y : ℕ). pick (eqb l f) y f) (up-is f h)
 
-  -- the links, as changed functions
-  abbrev pub member-links : Links
-  member-links =
-      record {
-        rounds = roundsOf m;
-        members = record {
-          next = put (put (keyAt (m .«next_key»)) last-key key) key 256;
-          prev = put (put (keyAt (m .«previous_key»)) key last-key) 256 key;
-          root = 256;
-          len = len;
-          fresh = fresh;
-          free = free .0;
-        };
-        key = keyAt (m .«key_index»);
-        next = put (valueAt (m .«next_index»)) (1024 + key) (1024 + key);
-        prev = put (valueAt (m .«previous_index»)) (1024 + key) (1024 + key);
-        size = put (at (m .length)) key 0;
-      }
-
-  pub member-stored : Sized m → key < 256 → keyAt (m .«previous_key») 256 ≤ 256 → linksOf with-member ≡ member-links
-  member-stored s fits back =
-      links-eq (linksOf with-member) _ refl
-      (places-eq (membersOf with-member) _
-      (key-set₂ (m .«next_key») last-key (record { 0 = key }) key (record { 0 = 256 }) 257 (s .next-key) (omega arith) (omega arith))
-      (key-set₂ (m .«previous_key») key (record { 0 = last-key }) 256 (record { 0 = key }) 257 (s .previous-key) (omega arith) (omega arith))
-      refl refl refl refl)
+module _ (a : Arrays) (s : Sized a) where
+  pub member-links : (k p : ℕ) → spot (a .members) < 256 → at (a .«previous_key») 256 ≤ 256 → at (a .members) 0 < 256 → at (a .members) 1 ≤ 256
+      → linksOf (withMember a k p) ≡ joined (linksOf a)
+  member-links k p fits back len fresh =
+      links-eq (linksOf (withMember a k p)) _ refl
+      (places-eq (membersOf (withMember a k p)) _
+      (at-set₂ (a .«next_key») (at (a .«previous_key») 256) (spot (a .members)) (spot (a .members)) 256 257 (s .next-key) (omega arith) (omega arith))
+      (at-set₂ (a .«previous_key») (spot (a .members)) (at (a .«previous_key») 256) 256 (spot (a .members)) 257 (s .previous-key) (omega arith) (omega arith))
+      refl (up-is (at (a .members) 0) (omega arith)) (fresh-is (at (a .members) 0) (at (a .members) 1) (omega arith)) refl)
       refl
-      (value-set (m .«next_index») (1024 + key) (record { 0 = 1024 + key }) (rw (s .next-index) (omega arith)))
-      (value-set (m .«previous_index») (1024 + key) (record { 0 = 1024 + key }) (rw (s .previous-index) (omega arith)))
-      (at-set (m .length) key 0 (rw (s .lengths) fits))
+      (ap (λ (y : ℕ). at (set (a .«next_index») y y)) cell ∙ at-set (a .«next_index») (1024 + spot (a .members)) (1024 + spot (a .members)) (rw (s .next-index) (omega arith)))
+      (ap (λ (y : ℕ). at (set (a .«previous_index») y y)) cell ∙ at-set (a .«previous_index») (1024 + spot (a .members)) (1024 + spot (a .members)) (rw (s .previous-index) (omega arith)))
+      (at-set (a .lengths) (spot (a .members)) 0 (rw (s .lengths) fits))
+    where
+      cell : baseOf (spot (a .members)) ≡ 1024 + spot (a .members)
+      cell = base-is (spot (a .members)) fits
 
--- ---- a round
-
-module _ (m : ListOrderedMultimap) (x key v len fresh : ℕ) (free : ValuePlace) (taken : ℕ) where
-  abbrev last : ℕ
-  last = valueAt (m .«previous_value») 1024
-
-  abbrev tail : ℕ
-  tail = valueAt (m .«previous_index») (1024 + key)
-
-  -- the round v of the member place `key` in the round place x, after the last round and after that member's last
-  abbrev pub with-round : ListOrderedMultimap
-  with-round =
-      record {
-        keys = m .keys;
-        length = set (m .length) key (at (m .length) key + 1);
-        «next_key» = m .«next_key»;
-        «previous_key» = m .«previous_key»;
-        values = set (m .values) x v;
-        «key_index» = set (m .«key_index») x (record { 0 = key });
-        «next_value» = set (set (m .«next_value») last (record { 0 = x })) x (record { 0 = 1024 });
-        «previous_value» = set (set (m .«previous_value») x (record { 0 = last })) 1024 (record { 0 = x });
-        «next_index» = set (set (m .«next_index») tail (record { 0 = x })) x (record { 0 = 1024 + key });
-        «previous_index» = set (set (m .«previous_index») x (record { 0 = tail })) (1024 + key) (record { 0 = x });
-        index = m .index;
-        «keys_len» = m .«keys_len»;
-        «keys_fresh» = m .«keys_fresh»;
-        «keys_free» = m .«keys_free»;
-        «values_len» = len;
-        «values_fresh» = fresh;
-        «values_free» = free;
-        taken = taken;
-      }
-
-  abbrev pub round-links : Links
-  round-links =
-      record {
-        rounds = record {
-          next = put (put (valueAt (m .«next_value»)) last x) x 1024;
-          prev = put (put (valueAt (m .«previous_value»)) x last) 1024 x;
-          root = 1024;
-          len = len;
-          fresh = fresh;
-          free = free .0;
-        };
-        members = membersOf m;
-        key = put (keyAt (m .«key_index»)) x key;
-        next = put (put (valueAt (m .«next_index»)) tail x) x (1024 + key);
-        prev = put (put (valueAt (m .«previous_index»)) x tail) (1024 + key) x;
-        size = put (at (m .length)) key (at (m .length) key + 1);
-      }
-
-  pub round-stored : Sized m → x < 1024 → key < 256 → valueAt (m .«previous_value») 1024 ≤ 1024 → valueAt (m .«previous_index») (1024 + key) < 1280 → linksOf with-round ≡ round-links
-  round-stored s place fits back end =
-      links-eq (linksOf with-round) _
-      (places-eq (roundsOf with-round) _
-      (value-set₂ (m .«next_value») last (record { 0 = x }) x (record { 0 = 1024 }) 1025 (s .next-value) (omega arith) (omega arith))
-      (value-set₂ (m .«previous_value») x (record { 0 = last }) 1024 (record { 0 = x }) 1025 (s .previous-value) (omega arith) (omega arith))
-      refl refl refl refl)
+  pub round-links : (key v : ℕ) → spot (a .rounds) < 1024 → key < 256 → at (a .«previous_value») 1024 ≤ 1024 → at (a .«previous_index») (1024 + key) < 1280
+      → at (a .lengths) key < 1024 → at (a .rounds) 0 < 1024 → at (a .rounds) 1 ≤ 1024 → linksOf (withRound a key v) ≡ added (linksOf a) key
+  round-links key v place fits back tail size len fresh =
+      links-eq (linksOf (withRound a key v)) _
+      (places-eq (roundsOf (withRound a key v)) _
+      (at-set₂ (a .«next_value») (at (a .«previous_value») 1024) (spot (a .rounds)) (spot (a .rounds)) 1024 1025 (s .next-value) (omega arith) (omega arith))
+      (at-set₂ (a .«previous_value») (spot (a .rounds)) (at (a .«previous_value») 1024) 1024 (spot (a .rounds)) 1025 (s .previous-value) (omega arith) (omega arith))
+      refl (up-is (at (a .rounds) 0) (omega arith)) (fresh-is (at (a .rounds) 0) (at (a .rounds) 1) (omega arith)) refl)
       refl
-      (key-set (m .«key_index») x (record { 0 = key }) (rw (s .key-index) place))
-      (value-set₂ (m .«next_index») tail (record { 0 = x }) x (record { 0 = 1024 + key }) 1280 (s .next-index) end (omega arith))
-      (value-set₂ (m .«previous_index») x (record { 0 = tail }) (1024 + key) (record { 0 = x }) 1280 (s .previous-index) (omega arith) (omega arith))
-      (at-set (m .length) key (at (m .length) key + 1) (rw (s .lengths) fits))
+      (at-set (a .«key_index») (spot (a .rounds)) key (rw (s .key-index) place))
+      (ap (λ (y : ℕ). at (set (set (a .«next_index») (at (a .«previous_index») y) (spot (a .rounds))) (spot (a .rounds)) y)) cell
+      ∙ at-set₂ (a .«next_index») (at (a .«previous_index») (1024 + key)) (spot (a .rounds)) (spot (a .rounds)) (1024 + key) 1280 (s .next-index) tail (omega arith))
+      (ap (λ (y : ℕ). at (set (set (a .«previous_index») (spot (a .rounds)) (at (a .«previous_index») y)) y (spot (a .rounds)))) cell
+      ∙ at-set₂ (a .«previous_index») (spot (a .rounds)) (at (a .«previous_index») (1024 + key)) (1024 + key) (spot (a .rounds)) 1280 (s .previous-index) (omega arith) (omega arith))
+      (ap (λ (y : ℕ). at (set (a .lengths) key y)) (up-is (at (a .lengths) key) (omega arith)) ∙ at-set (a .lengths) key (at (a .lengths) key + 1) (rw (s .lengths) fits))
+    where
+      cell : baseOf key ≡ 1024 + key
+      cell = base-is key fits
+
+  pub member-sized : (k p : ℕ) → Sized (withMember a k p)
+  member-sized k p =
+      record {
+        keys = simp length-set (s .keys);
+        lengths = simp length-set (s .lengths);
+        next-key = simp length-set (s .next-key);
+        previous-key = simp length-set (s .previous-key);
+        values = s .values;
+        key-index = s .key-index;
+        next-value = s .next-value;
+        previous-value = s .previous-value;
+        next-index = simp length-set (s .next-index);
+        previous-index = simp length-set (s .previous-index);
+        index = simp length-set (s .index);
+        members = refl;
+        rounds = s .rounds;
+      }
+
+  pub round-sized : (key v : ℕ) → Sized (withRound a key v)
+  round-sized key v =
+      record {
+        keys = s .keys;
+        lengths = simp length-set (s .lengths);
+        next-key = s .next-key;
+        previous-key = s .previous-key;
+        values = simp length-set (s .values);
+        key-index = simp length-set (s .key-index);
+        next-value = simp length-set (s .next-value);
+        previous-value = simp length-set (s .previous-value);
+        next-index = simp length-set (s .next-index);
+        previous-index = simp length-set (s .previous-index);
+        index = s .index;
+        members = s .members;
+        rounds = refl;
+      }

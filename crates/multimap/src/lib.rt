@@ -1,13 +1,38 @@
 // The linked map: one record of arrays. A list of rounds, a list of members, each member's rounds as a chain, and the index over the members.
+pub mod places;
+
 use index::KeyPlace;
 ghost use mathlib.Core.Path.{_≡_};
 ghost use Rattle.steps.specs.State.{empty};
+ghost use Rattle.links.specs.Stores.{at};
+ghost use Rattle.multimap.specs.Arrays.{arraysOf};
+ghost use Rattle.multimap.specs.Changes.{baseOf};
 ghost use Rattle.multimap.specs.Map.{stateOf};
 ghost use Rattle.multimap.specs.WellLinked.{WellLinked};
 
 pub const MEMBERS: u16 = 256;
 
 pub const ROUNDS: u16 = 1024;
+
+// The map's arrays as the calls in place are lent them, in the record's order; a member place and a round place are numbers there, which is the
+// same memory. Counts are how many places are in use, how many have ever been, and the first freed one.
+pub type Keys = [u64; 256];
+
+pub type Lengths = [u16; 256];
+
+pub type KeyLinks = [u16; 257];
+
+pub type Values = [u64; 1024];
+
+pub type KeyIndex = [u16; 1024];
+
+pub type ValueLinks = [u16; 1025];
+
+pub type IndexLinks = [u16; 1280];
+
+pub type Index = [u16; 512];
+
+pub type Counts = [u16; 3];
 
 // A round's place in the map's arrays of rounds.
 #[repr(C)]
@@ -46,7 +71,7 @@ pub struct ListOrderedMultimap {
 
 // The empty map.
 pub fn new() -> ListOrderedMultimap
-    ensures { λ r. ⌜ WellLinked r × (stateOf r ≡ empty) ⌝ }
+    ensures { λ r. ⌜ WellLinked (arraysOf r) × (stateOf (arraysOf r) ≡ empty) ⌝ }
 {
     let mut out = ListOrderedMultimap {
         keys: [0; 256],
@@ -75,14 +100,51 @@ pub fn new() -> ListOrderedMultimap
     out
 }
 
-// A round, or none.
-pub enum Got {
-    Nothing,
-    Round(u64),
+// The cell at which the chain of a member's rounds begins and ends.
+pub fn base(key: KeyPlace) -> u16
+    ensures { λ r. ⌜ r ≡ baseOf (key .0) ⌝ }
+{
+    let k = key.0;
+    if k < 64511 { 1024 + k } else { 65535 }
 }
 
-// How many values were written out; or refused by 3, since a slice is too short.
-pub enum Counted {
-    Count(u16),
-    Short,
+// The place of a member's first round.
+pub fn head(next_index: &IndexLinks, key: KeyPlace) -> ValuePlace
+    ensures { λ r. ⌜ r .0 ≡ at (now («next_index» .entry)) (baseOf (key .0)) ⌝ }
+{
+    let cell = base(key);
+    ValuePlace(links::get(next_index, cell))
+}
+
+// The place after x, in the list of rounds or in a member's chain.
+pub fn after(next: &[u16], x: ValuePlace) -> ValuePlace
+    ensures { λ r. ⌜ r .0 ≡ at (now (next .entry)) (x .0) ⌝ }
+{
+    ValuePlace(links::get(next, x.0))
+}
+
+// The place of the member whose round stands at x.
+pub fn owner(key_index: &KeyIndex, x: ValuePlace) -> KeyPlace
+    ensures { λ r. ⌜ r .0 ≡ at (now («key_index» .entry)) (x .0) ⌝ }
+{
+    KeyPlace(links::get(key_index, x.0))
+}
+
+// The member number in a member place, its number of rounds, and the round in a round place.
+pub fn member(keys: &Keys, key: KeyPlace) -> u64
+    ensures { λ r. ⌜ r ≡ at (now (keys .entry)) (key .0) ⌝ }
+{
+    links::get_wide(keys, key.0)
+}
+
+pub fn size(lengths: &Lengths, key: KeyPlace) -> u16
+    ensures { λ r. ⌜ r ≡ at (now (lengths .entry)) (key .0) ⌝ }
+{
+    links::get(lengths, key.0)
+}
+
+pub fn round(values: &Values, x: ValuePlace) -> u64
+    ensures { λ r. ⌜ r ≡ at (now (values .entry)) (x .0) ⌝ }
+{
+    links::get_wide(values, x.0)
 }

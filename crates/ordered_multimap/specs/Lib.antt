@@ -1,1 +1,2 @@
-pub mod Demand3
+-- What the contracts of `ordered_multimap` cite.
+pub mod Turned

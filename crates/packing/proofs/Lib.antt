@@ -1,10 +1,7 @@
 -- Laws that belong to no one function.
-pub mod Lists
-pub mod Walks
 pub mod Clears
-pub mod Turns
-pub mod Members
-pub mod Rounds
-pub mod Indexes
-pub mod Renumber
+pub mod Lists
+pub mod Seats
+pub mod Fills
+pub mod Copying
 pub mod Packs

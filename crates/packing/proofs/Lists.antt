@@ -2,15 +2,15 @@
 use Prim.Native.Nat.{ℕ, zero, suc, _+_, _<_}
 use mathlib.Core.Path.{_≡_, refl, sym, ap, _∙_, subst}
 use mathlib.Core.Logic.{_≢_, ⊎-elim}
-use mathlib.Core.Bool.{Bool, true, false}
 use mathlib.Core.List.{List, [], _∷_, _++_, map}
 use native.Mathlib.Omega.{arith}
-use lib.ListN.{length, getD}
-use Rattle.links.specs.Path.{pick, count, keep, walk}
+use lib.ListN.{length, getD, length-map, List·getD-map}
+use Rattle.links.specs.Path.{count, walk}
 use Rattle.links.proofs.Paths.{same-or-not, count-same, count-other, Once}
 use Rattle.links.proofs.Lists.{length-walk}
 use Rattle.multimap.proofs.Copies.{getD-in}
-use Rattle.packing.specs.Moves.{upTo}
+use Rattle.multimap.proofs.Stores.{map-append}
+use Rattle.packing.specs.Building.{upTo}
 
 -- ---- the i-th place of a list
 
@@ -22,7 +22,8 @@ nth-any (x ∷ xs) (suc i) d e h = nth-any xs i d e (omega arith)
 pub nth-apart : (xs : List ℕ) (i j d : ℕ) → Once xs → i < j → j < length xs → getD xs i d ≢ getD xs j d
 nth-apart [] i j d o h k e = omega arith
 nth-apart (x ∷ xs) i zero d o h k e = omega arith
-nth-apart (x ∷ xs) zero (suc j) d o h k e = omega (arith, o x, count-same x xs, subst (λ (y : ℕ). 0 < count y xs) (sym e) (getD-in xs j d (omega arith)))
+nth-apart (x ∷ xs) zero (suc j) d o h k e =
+    omega (arith, o x, count-same x xs, subst (λ (y : ℕ). 0 < count y xs) (sym e) (getD-in xs j d (omega arith)))
 nth-apart (x ∷ xs) (suc i) (suc j) d o h k e = nth-apart xs i j d (λ q. omega (arith, o q)) (omega arith) (omega arith) e
 
 -- where a place stands
@@ -53,6 +54,9 @@ up-more n =
     let e : n + 1 ≡ suc n = omega arith in
     let f : 0 + n ≡ n = omega arith in
     ap upTo e ∙ from-more 0 n ∙ ap (λ (y : ℕ). upTo n ++ y ∷ []) f
+
+pub map-more : {A : Type 0} (f : ℕ → A) (n : ℕ) → map f (upTo (n + 1)) ≡ map f (upTo n) ++ f n ∷ []
+map-more f n = ap (map f) (up-more n) ∙ map-append f (upTo n) (n ∷ [])
 
 pub length-up : (n : ℕ) → length (upTo n) ≡ n
 length-up n = length-walk suc 0 n
@@ -88,21 +92,11 @@ module _ {A : Type 0} (f g : ℕ → A) where
   map-up n xs e h =
       ap (λ (k : ℕ). map f (upTo k)) (sym e) ∙ map-from 0 xs (λ i l. let z : 0 + i ≡ i = omega arith in ap f z ∙ h i (omega arith))
 
--- how many pass a test
-module _ (f g : ℕ → Bool) where
-  keep-from : (s : ℕ) (xs : List ℕ) → ((i : ℕ) → i < length xs → f (s + i) ≡ g (getD xs i 0)) → length (keep f (walk suc s (length xs))) ≡ length (keep g xs)
-  keep-from s [] h = refl
-  keep-from s (x ∷ xs) h =
-      let e : s ≡ s + 0 = omega arith in
-      let first : f s ≡ g x = ap f e ∙ h 0 (omega arith) in
-      let rest = keep-from (suc s) xs (λ i l. let e : suc s + i ≡ s + suc i = omega arith in ap f e ∙ h (suc i) (omega arith)) in
-      rw first (go (g x) rest)
-    where
-      go : (b : Bool) → length (keep f (walk suc (suc s) (length xs))) ≡ length (keep g xs)
-          → length (pick b (s ∷ keep f (walk suc (suc s) (length xs))) (keep f (walk suc (suc s) (length xs)))) ≡ length (pick b (x ∷ keep g xs) (keep g xs))
-      go true e = ap suc e
-      go false e = e
-
-  pub keep-up : (n : ℕ) (xs : List ℕ) → length xs ≡ n → ((i : ℕ) → i < n → f i ≡ g (getD xs i 0)) → length (keep f (upTo n)) ≡ length (keep g xs)
-  keep-up n xs e h =
-      ap (λ (k : ℕ). length (keep f (upTo k))) (sym e) ∙ keep-from 0 xs (λ i l. let z : 0 + i ≡ i = omega arith in ap f z ∙ h i (omega arith))
+-- functions that make the same of the places from 0 on
+pub map-same-up : (f g : ℕ → ℕ) (n : ℕ) → map f (upTo n) ≡ map g (upTo n) → (i : ℕ) → i < n → f i ≡ g i
+map-same-up f g n e i h =
+    let long : length (map g (upTo n)) ≡ n = length-map (upTo n) g ∙ length-up n in
+    sym (ap f (nth-up n i h)) ∙ sym (List·getD-map f (upTo n) i 0)
+    ∙ ap (λ (l : List ℕ). getD l i (f 0)) e
+    ∙ nth-any (map g (upTo n)) i (f 0) (g 0) (rw long h)
+    ∙ List·getD-map g (upTo n) i 0 ∙ ap g (nth-up n i h)

@@ -1,33 +1,32 @@
--- The step of `pack_to`: when it is refused; and that with its members, rounds and index moved a map is well-linked, stands for what it stood for,
--- and has its places in order. Assumes nothing.
-use Prim.Native.Nat.{ℕ, _≤_, _<_}
+-- The step of `pack_to`: when it is refused; and that a map that was copied out and taken in again is well-linked, stands for what it stood
+-- for, and has its places in order. Assumes nothing.
+use Prim.Native.Nat.{ℕ, _<_}
 use mathlib.Core.Path.{_≡_, refl, sym, ap, _∙_, subst}
-use mathlib.Core.Logic.{_≢_, ⊎-elim}
-use mathlib.Core.Bool.{Bool, true, false, _||_}
-use mathlib.Core.List.{List, map}
+use mathlib.Core.Bool.{true, false, _||_}
+use mathlib.Core.List.{List, [], map}
 use native.Mathlib.Omega.{arith}
-use borrow.Author.Tests.{eq-eqb, ne-eqb, lt-ltb, le-ltb}
-use lib.Dec.{eqb, ltb}
+use lib.Dec.{ltb}
 use lib.ListN.{length, getD}
 use Rattle.steps.specs.State.{State, maxMembers, maxRounds}
 use Rattle.steps.specs.Call.{pack-to, refused, done}
+use Rattle.steps.specs.Coded.{coded}
 use Rattle.steps.specs.Step.{step, checks, act, say}
-use Rattle.steps.specs.Trace.{Does}
+use Rattle.steps.specs.Told.{Told}
 use Rattle.steps.proofs.Doing.{does-refuse, does-pack}
-use Rattle.links.specs.Path.{pick, count, keep}
+use Rattle.links.specs.Path.{count}
 use Rattle.links.specs.Places.{Places, order, Linked}
-use Rattle.links.specs.Links.{recordIn}
-use Rattle.links.proofs.Paths.{same-or-not}
-use Rattle.links.proofs.Lists.{length-order, in-array}
-use Rattle.index.specs.Table.{Holds}
-use Rattle.multimap.specs.Map.{at, keyAt, pairAt, pairs, members, roundsOf, membersOf, linksOf, stateOf}
-use Rattle.multimap.specs.WellLinked.{WellLinked, Packed, linked}
-use Rattle.multimap.specs.declared.ListOrderedMultimap.{ListOrderedMultimap}
-use Rattle.multimap.proofs.Stores.{mem-count, count-mem, length-pairs, length-members}
+use Rattle.links.proofs.Lists.{length-order, in-array, order-distinct}
+use Rattle.multimap.specs.Arrays.{Arrays, Sized, arrays}
+use Rattle.multimap.specs.Map.{at, pairAt, pairs, members, roundsOf, membersOf, stateOf}
+use Rattle.multimap.specs.WellLinked.{WellLinked, linked}
+use Rattle.multimap.proofs.Stores.{count-mem, length-pairs, length-members}
 use Rattle.multimap.proofs.Copies.{getD-in}
-use Rattle.packing.specs.Moves.{upTo, MembersMoved, SameRounds, Movable, RoundsMoved, SameMembers, newPlace}
-use Rattle.packing.proofs.Lists.{stands, nth-up, length-up, below-in, in-below, map-up, keep-up}
-use Rattle.packing.proofs.Renumber.{renumbered}
+use Rattle.multimap.proofs.Sounds.{linked-sound, sound-linked}
+use Rattle.packing.specs.Building.{upTo, Distinct, MembersCopied, RoundsCopied, Apart, Seated, Fillable, Filled, Repacked}
+use Rattle.packing.specs.Cleared.{cleared}
+use Rattle.packing.proofs.Clears.{cleared-map}
+use Rattle.packing.proofs.Lists.{stands, nth-apart, length-up, nth-up, below-in, map-up}
+use Rattle.packing.proofs.Seats.{number}
 
 -- ---- when it is refused
 
@@ -40,179 +39,214 @@ module _ (a b : ℕ) (s : State) where
   unfolding step checks act
   step-rounds e f = rw (e, f)
 
-  step-above : ltb a (length (s .members)) ≡ false → ltb b (length (s .pairs)) ≡ false → (ltb maxMembers a || ltb maxRounds b) ≡ true → step (pack-to a b) s ≡ (say (refused 6), s)
+  step-above : ltb a (length (s .members)) ≡ false → ltb b (length (s .pairs)) ≡ false → (ltb maxMembers a || ltb maxRounds b) ≡ true
+      → step (pack-to a b) s ≡ (say (refused 6), s)
   unfolding step checks act
   step-above e f h = rw (e, f, h)
 
-  step-done : ltb a (length (s .members)) ≡ false → ltb b (length (s .pairs)) ≡ false → (ltb maxMembers a || ltb maxRounds b) ≡ false → step (pack-to a b) s ≡ (say done, s)
+  step-done : ltb a (length (s .members)) ≡ false → ltb b (length (s .pairs)) ≡ false → (ltb maxMembers a || ltb maxRounds b) ≡ false
+      → step (pack-to a b) s ≡ (say done, s)
   unfolding step checks act
   step-done e f h = rw (e, f, h)
 
-module _ (a b : ℕ) (m : ListOrderedMultimap) (g : WellLinked m) where
-  pub refused-members : a < m .«keys_len» → Does linked (pack-to a b) m (say (refused 4)) m
-  refused-members h = does-refuse linked (pack-to a b) m 4 g (step-members a b (stateOf m) (lt-ltb a (length (members m)) (rw (length-members m) h)))
+module _ (a b : ℕ) (m : Arrays) (g : WellLinked m) (ans : List ℕ) where
+  told-refused : (n : ℕ) → step (pack-to a b) (stateOf m) ≡ (say (refused n), stateOf m) → ans ≡ coded (refused n)
+      → Told linked (pack-to a b) m m [] [] ans
+  told-refused n e w =
+      record { outcome = say (refused n); does = does-refuse linked (pack-to a b) m n g e; out-is = refl; out2-is = refl; ans-is = w }
 
-  module _ (enough : m .«keys_len» ≤ a) where
+  pub told-members : ltb a (at (m .members) 0) ≡ true → ans ≡ coded (refused 4) → Told linked (pack-to a b) m m [] [] ans
+  told-members h = told-refused 4 (step-members a b (stateOf m) (ap (ltb a) (length-members m) ∙ h))
+
+  module _ (enough : ltb a (at (m .members) 0) ≡ false) where
     fit-members : ltb a (length (members m)) ≡ false
-    fit-members = le-ltb a (length (members m)) (rw (length-members m) enough)
+    fit-members = ap (ltb a) (length-members m) ∙ enough
 
-    pub refused-rounds : b < m .«values_len» → Does linked (pack-to a b) m (say (refused 5)) m
-    refused-rounds h = does-refuse linked (pack-to a b) m 5 g (step-rounds a b (stateOf m) fit-members (lt-ltb b (length (pairs m)) (rw (length-pairs m) h)))
+    pub told-rounds : ltb b (at (m .rounds) 0) ≡ true → ans ≡ coded (refused 5) → Told linked (pack-to a b) m m [] [] ans
+    told-rounds h = told-refused 5 (step-rounds a b (stateOf m) fit-members (ap (ltb b) (length-pairs m) ∙ h))
 
-    module _ (room : m .«values_len» ≤ b) where
+    module _ (room : ltb b (at (m .rounds) 0) ≡ false) where
       fit-rounds : ltb b (length (pairs m)) ≡ false
-      fit-rounds = le-ltb b (length (pairs m)) (rw (length-pairs m) room)
+      fit-rounds = ap (ltb b) (length-pairs m) ∙ room
 
-      pub refused-above : (ltb 256 a || ltb 1024 b) ≡ true → Does linked (pack-to a b) m (say (refused 6)) m
-      refused-above h = does-refuse linked (pack-to a b) m 6 g (step-above a b (stateOf m) fit-members fit-rounds h)
+      pub told-above : (ltb maxMembers a || ltb maxRounds b) ≡ true → ans ≡ coded (refused 6) → Told linked (pack-to a b) m m [] [] ans
+      told-above h = told-refused 6 (step-above a b (stateOf m) fit-members fit-rounds h)
 
-      done-packed : (ltb 256 a || ltb 1024 b) ≡ false → (r : ListOrderedMultimap) → WellLinked r → stateOf r ≡ stateOf m → Packed r
-          → Does linked (pack-to a b) m (say done) r
-      done-packed h r l e p = does-pack linked (pack-to a b) m (say done) r refl (step-done a b (stateOf m) fit-members fit-rounds h) e l p
+      pub told-packed : (ltb maxMembers a || ltb maxRounds b) ≡ false → {r : Arrays} → Repacked m r → ans ≡ coded done
+          → Told linked (pack-to a b) m r [] [] ans
+      told-packed h {r} p w =
+          record {
+            outcome = say done;
+            does =
+                does-pack linked (pack-to a b) m (say done) r refl (step-done a b (stateOf m) fit-members fit-rounds h)
+                (p .state) (p .linked) (p .packed);
+            out-is = refl;
+            out2-is = refl;
+            ans-is = w;
+          }
 
 -- ---- what it leads to
 
-module _ (m : ListOrderedMultimap) (g : WellLinked m) (places : List ℕ) (o : ListOrderedMultimap)
-    (a : MembersMoved (m .keys) (order (membersOf m)) (m .«keys_len») places o) (s : SameRounds m o) where
+distinct : (l : Places) → Linked l → Distinct (order l) (l .root)
+distinct l g =
+    record { few = omega (arith, length-order l, g .some-used, g .some-fresh); inside = in-array l g; once = order-distinct l g }
+
+-- places that are those from 0 on stand in order
+in-order : (l : Places) (n : ℕ) → order l ≡ upTo n → (i : ℕ) → i < l .len → getD (order l) i 0 ≡ i
+in-order l n e i h = ap (λ (q : List ℕ). getD q i 0) e ∙ nth-up n i (omega (arith, length-order l, ap length e, length-up n))
+
+-- r with another T
+abbrev pub retaken : Arrays → ℕ → Arrays
+retaken r t =
+    arrays (r .keys) (r .lengths) (r .«next_key») (r .«previous_key») (r .values) (r .«key_index») (r .«next_value») (r .«previous_value»)
+    (r .«next_index») (r .«previous_index») (r .index) (r .members) (r .rounds) t
+
+retaken-sized : (r : Arrays) (t : ℕ) → Sized r → Sized (retaken r t)
+retaken-sized r t s =
+    record {
+      keys = s .keys;
+      lengths = s .lengths;
+      next-key = s .next-key;
+      previous-key = s .previous-key;
+      values = s .values;
+      key-index = s .key-index;
+      next-value = s .next-value;
+      previous-value = s .previous-value;
+      next-index = s .next-index;
+      previous-index = s .previous-index;
+      index = s .index;
+      members = s .members;
+      rounds = s .rounds;
+    }
+
+module _ (m : Arrays) (g : WellLinked m) where
   abbrev ks : List ℕ
   ks = order (membersOf m)
 
-  abbrev n : ℕ
-  n = m .«keys_len»
+  abbrev vs : List ℕ
+  vs = order (roundsOf m)
 
-  long : length ks ≡ n
-  long = length-order (membersOf m)
+  pub members-distinct : Distinct (order (membersOf m)) 256
+  members-distinct = distinct (membersOf m) (g .chained .members)
 
-  -- the new place of a member place stands for it
-  new-is : (k : ℕ) → 0 < count k ks → (at places k < n) × (getD ks (at places k) 0 ≡ k)
-  new-is k i =
-      let w = stands k ks i in
-      let l : w .index < n = rw long at (w .inside) in
-      let e : at places k ≡ w .index = ap (at places) (sym (w .is)) ∙ a .place (w .index) l in
-      (rw e l, ap (λ (j : ℕ). getD ks j 0) e ∙ w .is)
+  pub rounds-distinct : Distinct (order (roundsOf m)) 1024
+  rounds-distinct = distinct (roundsOf m) (g .chained .rounds)
 
-  pub movable : Movable o places
-  movable =
-      record {
-        rounds = subst Linked (sym (s .rounds)) (g .chained .rounds);
-        members = a .linked;
-        empty = λ k i. a .empty k (in-below n k (rw (a .members) at i));
-        old = λ q i. rw (s .key-index) (in-array (membersOf m) (g .chained .members) (keyAt (m .«key_index») q) (known q i));
-        new = λ q i. rw (s .key-index, a .members) (below-in n (at places (keyAt (m .«key_index») q)) (new-is (keyAt (m .«key_index») q) (known q i) .0));
-      }
-    where
-      known : (q : ℕ) → 0 < count q (order (roundsOf o)) → 0 < count (keyAt (m .«key_index») q) ks
-      known q i = g .chained .keys q (subst (λ (l : Places). 0 < count q (order l)) (s .rounds) i)
+  pub none-seated : (numbers : List ℕ) {o : Arrays} → o ≡ cleared m → Seated numbers 0 o
+  none-seated numbers e =
+      subst (Seated numbers 0) (sym e)
+      (record {
+        sound = linked-sound (cleared m) (cleared-map m (g .sized) (g .taken) .0);
+        members = refl;
+        places = refl;
+        fresh = refl;
+        none = refl;
+      })
 
-  module _ (r : ListOrderedMultimap) (b : RoundsMoved (o .values) (λ q. at places (keyAt (o .«key_index») q)) (order (roundsOf o)) (o .«values_len») r) (t : SameMembers o r)
-      (index : List ℕ) (size : length index ≡ 512) (renewed : (p : ℕ) → p < 512 → at index p ≡ newPlace places (at (m .index) p)) where
-    abbrev vs : List ℕ
-    vs = order (roundsOf m)
-
-    abbrev old-key : ℕ → ℕ
-    old-key q = keyAt (m .«key_index») q
-
-    -- with the new index
-    abbrev pub packed : ListOrderedMultimap
-    packed =
+  module _ (numbers ranks : List ℕ) (a : MembersCopied (m .keys) (order (membersOf m)) (length (order (membersOf m))) numbers ranks) where
+    pub numbers-apart : Apart numbers (at (m .members) 0)
+    numbers-apart =
         record {
-          keys = r .keys;
-          length = r .length;
-          «next_key» = r .«next_key»;
-          «previous_key» = r .«previous_key»;
-          values = r .values;
-          «key_index» = r .«key_index»;
-          «next_value» = r .«next_value»;
-          «previous_value» = r .«previous_value»;
-          «next_index» = r .«next_index»;
-          «previous_index» = r .«previous_index»;
-          index = index;
-          «keys_len» = r .«keys_len»;
-          «keys_fresh» = r .«keys_fresh»;
-          «keys_free» = r .«keys_free»;
-          «values_len» = r .«values_len»;
-          «values_fresh» = r .«values_fresh»;
-          «values_free» = r .«values_free»;
-          taken = r .taken;
+          few = omega (arith, members-distinct .few, length-order (membersOf m));
+          apart =
+              λ i j h l e.
+              let lj : j < length ks = rw (length-order (membersOf m)) l in
+              let li : i < length ks = omega arith in
+              let one : getD ks i 0 ≡ getD ks j 0 =
+              g .index .distinct (getD ks i 0) (getD ks j 0) (count-mem _ ks (getD-in ks i 0 li)) (count-mem _ ks (getD-in ks j 0 lj))
+              (sym (a .number i li) ∙ e ∙ a .number j lj) in
+              nth-apart ks i j 0 (members-distinct .once) h lj one;
         }
 
-    -- the rounds are moved from m
-    moved : RoundsMoved (m .values) (λ q. at places (keyAt (m .«key_index») q)) (order (roundsOf m)) (m .«values_len») r
-    moved = subst (λ (l : Places). RoundsMoved (m .values) (λ q. at places (old-key q)) (order l) (l .len) r) (s .rounds) (rw (s .values, s .key-index) at b)
+    -- the rank of a member place leads back to it
+    rank-is : (k : ℕ) → 0 < count k ks → (at ranks k < length ks) × (getD ks (at ranks k) 0 ≡ k)
+    rank-is k i =
+        let w = stands k ks i in
+        let e : at ranks k ≡ w .index = ap (at ranks) (sym (w .is)) ∙ a .rank (w .index) (w .inside) in
+        (rw e (w .inside), ap (λ (j : ℕ). getD ks j 0) e ∙ w .is)
 
-    joined : order (membersOf r) ≡ upTo n
-    joined = ap order (t .members) ∙ a .members
+    module _ (owners scores : List ℕ)
+        (b : RoundsCopied (m .values) (m .«key_index») ranks (order (roundsOf m)) (length (order (roundsOf m))) owners scores)
+        (s : Arrays) (t : Seated numbers (at (m .members) 0) s) where
+      -- the member place of the j-th round
+      abbrev old : ℕ → ℕ
+      old j = at (m .«key_index») (getD vs j 0)
 
-    number : (k : ℕ) → k < n → at (r .keys) k ≡ at (m .keys) (getD ks k 0)
-    number k l = ap (λ (l : List ℕ). at l k) (t .keys) ∙ a .number k l
+      known : (j : ℕ) → j < length vs → 0 < count (old j) ks
+      known j h = g .chained .keys (getD vs j 0) (getD-in vs j 0 h)
 
-    -- the member number at a new place is that at the old one
-    number-new : (k : ℕ) → 0 < count k ks → at (r .keys) (at places k) ≡ at (m .keys) k
-    number-new k i = number (at places k) (new-is k i .0) ∙ ap (at (m .keys)) (new-is k i .1)
+      low : (j : ℕ) → j < length vs → at owners j < at (m .members) 0
+      low j h = rw (b .owner j h) (omega (arith, rank-is (old j) (known j h) .0, length-order (membersOf m)))
 
-    known : (q : ℕ) → q < m .«values_len» → 0 < count (old-key (getD vs q 0)) ks
-    known q l = g .chained .keys (getD vs q 0) (getD-in vs q 0 (rw (length-order (roundsOf m)) l))
+      pub fillable : Fillable owners (at (m .rounds) 0) s
+      fillable =
+          record {
+            sound = t .sound;
+            none = t .none;
+            few = omega (arith, rounds-distinct .few, length-order (roundsOf m));
+            owner = λ j h. rw (t .places) (below-in (at (m .members) 0) (at owners j) (low j (rw (length-order (roundsOf m)) h)));
+          }
 
-    pair : (q : ℕ) → q < m .«values_len» → pairAt r q ≡ pairAt m (getD vs q 0)
-    pair q l =
-        rw (
-          ap (at (r .keys)) (moved .member q l) ∙ number-new (old-key (getD vs q 0)) (known q l),
-          moved .value q l,
-        )
+      module _ (r : Arrays) (f : Filled s owners scores (at (m .rounds) 0) r) where
+        same-members : members r ≡ members m
+        same-members =
+            ap (λ (keys : List ℕ). map (at keys) (order (membersOf r))) (f .keys)
+            ∙ ap (λ (l : Places). map (at (s .keys)) (order l)) (f .members)
+            ∙ t .members
+            ∙ map-up (at numbers) (at (m .keys)) (at (m .members) 0) ks (length-order (membersOf m))
+            (λ i h. a .number i (rw (length-order (membersOf m)) h))
 
-    same-pairs : pairs r ≡ pairs m
-    same-pairs = ap (map (pairAt r)) (moved .rounds) ∙ map-up (pairAt r) (pairAt m) (m .«values_len») vs (length-order (roundsOf m)) pair
+        key-is : (j : ℕ) → j < length vs → at (s .keys) (at owners j) ≡ at (m .keys) (old j)
+        key-is j h =
+            let i : at owners j < length ks = rw (length-order (membersOf m)) (low j h) in
+            number numbers (at (m .members) 0) s t (at owners j) (low j h)
+            ∙ a .number (at owners j) i
+            ∙ ap (λ (x : ℕ). at (m .keys) (getD ks x 0)) (b .owner j h)
+            ∙ ap (at (m .keys)) (rank-is (old j) (known j h) .1)
 
-    same-members : members r ≡ members m
-    same-members = ap (map (at (r .keys))) joined ∙ map-up (at (r .keys)) (at (m .keys)) n ks long number
+        same-pairs : pairs r ≡ pairs m
+        same-pairs =
+            f .pairs
+            ∙ map-up (λ j. record { key = at (s .keys) (at owners j); value = at scores j }) (pairAt m) (at (m .rounds) 0) vs
+            (length-order (roundsOf m))
+            (λ j h. let i : j < length vs = rw (length-order (roundsOf m)) h in rw (key-is j i, b .score j i))
 
-    packed-state : stateOf packed ≡ stateOf m
-    packed-state = rw (same-pairs, same-members, t .taken, s .taken)
+        abbrev p : Arrays
+        p = retaken r (m .taken)
 
-    packed-places : Packed packed
-    packed-places = (
-      λ i l. ap (λ (l : List ℕ). getD l i 0) (moved .rounds) ∙ nth-up (m .«values_len») i (rw (moved .len) at l),
-      λ i l. ap (λ (l : List ℕ). getD l i 0) joined ∙ nth-up n i (omega (arith, l, ap (λ (l : Places). l .len) (t .members), a .len)),
-    )
+        same-state : stateOf p ≡ stateOf m
+        same-state = rw (same-pairs, same-members)
 
-    -- a member has as many rounds as it had
-    record-long : (k : ℕ) → k < n → length (recordIn (linksOf r) k) ≡ length (recordIn (linksOf m) (getD ks k 0))
-    record-long k l =
-        ap (λ (l : List ℕ). length (keep (λ q. eqb (keyAt (r .«key_index») q) k) l)) (moved .rounds)
-        ∙ keep-up (λ q. eqb (keyAt (r .«key_index») q) k) (λ q. eqb (old-key q) (getD ks k 0)) (m .«values_len») vs (length-order (roundsOf m))
-        (λ q j. ap (λ (x : ℕ). eqb x k) (moved .member q j) ∙ own (old-key (getD vs q 0)) (known q j))
-      where
-        own : (j : ℕ) → 0 < count j ks → eqb (at places j) k ≡ eqb j (getD ks k 0)
-        own j i =
-            ⊎-elim (λ (e : at places j ≡ k). eq-eqb (at places j) k e ∙ sym (eq-eqb j (getD ks k 0) (sym (new-is j i .1) ∙ ap (λ (x : ℕ). getD ks x 0) e)))
-            (λ (e : at places j ≢ k). ne-eqb (at places j) k e ∙ sym (ne-eqb j (getD ks k 0) (λ z. e (ap (at places) z ∙ a .place k l))))
-            (same-or-not (at places j) k)
+        pub repacked : Repacked m (retaken r (m .taken))
+        repacked =
+            record {
+              linked =
+                  sound-linked m g p
+                  (record { sized = retaken-sized r (m .taken) (f .sound .sized); chained = f .sound .chained; index = f .sound .index })
+                  same-state;
+              state = same-state;
+              packed = (
+                in-order (roundsOf r) (at (m .rounds) 0) (f .places),
+                in-order (membersOf r) (at (m .members) 0) (ap order (f .members) ∙ t .places),
+              );
+            }
 
-    holds : Holds index (r .keys) (order (membersOf r))
-    holds =
-        renumbered (m .index) (m .keys) ks (g .index) index (r .keys) (order (membersOf r)) (at places) size
-        (rw (joined, length-up n) (omega (arith, g .index .few, long)))
-        (λ p lp e. renewed p lp ∙ ap (newPlace places) e ∙ ap (λ (x : Bool). pick x (at places 65535) 65535) (le-ltb 65535 256 (omega arith)))
-        (λ p lp l. renewed p lp ∙ ap (λ (x : Bool). pick x (at places (at (m .index) p)) (at (m .index) p)) (lt-ltb (at (m .index) p) 256 l))
-        (λ k i. count-mem (at places k) (order (membersOf r)) (rw joined (below-in n (at places k) (new-is k (mem-count k ks i) .0))))
-        (λ k i.
-        let l : k < n = in-below n k (rw joined at (mem-count k (order (membersOf r)) i)) in
-        (getD ks k 0, count-mem (getD ks k 0) ks (getD-in ks k 0 (rw long l)), a .place k l))
-        (λ j k mj mk e. sym (new-is j (mem-count j ks mj) .1) ∙ ap (λ (x : ℕ). getD ks x 0) e ∙ new-is k (mem-count k ks mk) .1)
-        (λ k i. omega (arith, new-is k (mem-count k ks i) .0, g .index .few, long))
-        (λ k i. number-new k (mem-count k ks i))
+-- ---- as `pack` goes on: n members and l rounds are held
 
-    packed-linked : WellLinked packed
-    packed-linked =
-        record {
-          chained = moved .chained;
-          some =
-              λ k i.
-              let l : k < n = in-below n k (rw joined at i) in
-              rw (record-long k l) (g .some (getD ks k 0) (getD-in ks k 0 (rw long l)));
-          index = holds;
-          taken = rw (t .taken, s .taken) (g .taken);
-        }
+module _ (m : Arrays) (g : WellLinked m) {numbers ranks : List ℕ}
+    (a : MembersCopied (m .keys) (order (membersOf m)) (length (order (membersOf m))) numbers ranks)
+    {n : ℕ} (en : n ≡ at (m .members) 0) where
+  pub seat-ready : {o : Arrays} → o ≡ cleared m → Seated numbers 0 o × Apart numbers n
+  seat-ready e = (none-seated m g numbers e, rw en (numbers-apart m g numbers ranks a))
 
-    pub packs : (x y : ℕ) → m .«keys_len» ≤ x → m .«values_len» ≤ y → (ltb 256 x || ltb 1024 y) ≡ false → Does linked (pack-to x y) m (say done) packed
-    packs x y enough room h = done-packed x y m g enough room h packed packed-linked packed-state packed-places
+  module _ {owners scores : List ℕ}
+      (b : RoundsCopied (m .values) (m .«key_index») ranks (order (roundsOf m)) (length (order (roundsOf m))) owners scores)
+      {l : ℕ} (el : l ≡ at (m .rounds) 0) {s : Arrays} (t : Seated numbers n s) where
+    seated : Seated numbers (at (m .members) 0) s
+    seated = subst (λ (i : ℕ). Seated numbers i s) en t
+
+    pub fill-ready : Fillable owners l s
+    fill-ready = rw el (fillable m g numbers ranks a owners scores b s seated)
+
+    pub packs : {r : Arrays} → Filled s owners scores l r → Repacked m (retaken r (m .taken))
+    packs {r} f = repacked m g numbers ranks a owners scores b s seated r (subst (λ (i : ℕ). Filled s owners scores i r) el f)

@@ -1,3 +1,3 @@
 -- What the contracts of `packing` cite.
-pub mod Answer
-pub mod Moves
+pub mod Cleared
+pub mod Building

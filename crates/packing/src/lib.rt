@@ -1,198 +1,301 @@
-// `clear`, after which no place is in use, and `pack_to`, after which the places from 0 on are, in order.
+// `new` and `clear`, after which no place is in use, and `pack_to`, after which the places from 0 on are, in order. Each of the map's arrays is
+// lent and changed where it stands. No public function has a premise but that the map is well-linked, and `om_new` has none.
+use answers::Answer;
+use index::Found;
 use index::KeyPlace;
-use multimap::ListOrderedMultimap;
+use multimap::Counts;
+use multimap::Index;
+use multimap::IndexLinks;
+use multimap::KeyIndex;
+use multimap::KeyLinks;
+use multimap::Keys;
+use multimap::Lengths;
 use multimap::MEMBERS;
 use multimap::ROUNDS;
+use multimap::ValueLinks;
 use multimap::ValuePlace;
+use multimap::Values;
 ghost use mathlib.Core.Path.{_≡_};
-ghost use Prim.Native.Nat.{ℕ, _<_};
-ghost use Rattle.steps.specs.Call.{clear, pack-to, done};
-ghost use Rattle.steps.specs.Step.{say};
-ghost use Rattle.steps.specs.Trace.{Does};
+ghost use mathlib.Core.List.{List, []};
+ghost use Prim.Native.Nat.{ℕ};
+ghost use mathlib.Core.Bool.{_||_};
+ghost use lib.Dec.{ltb};
+ghost use lib.ListN.{length};
+ghost use Rattle.steps.specs.Call as C;
+ghost use Rattle.steps.specs.State.{empty, maxMembers, maxRounds};
+ghost use Rattle.steps.specs.Told.{Told};
+ghost use Rattle.multimap.specs.Arrays.{Arrays};
+ghost use Rattle.multimap.specs.Lent.{lent, left};
+ghost use Rattle.multimap.specs.Map.{at, stateOf};
 ghost use Rattle.multimap.specs.WellLinked.{WellLinked, linked};
-ghost use Rattle.multimap.specs.Map.{at, keyAt, roundsOf, membersOf};
-ghost use Rattle.links.specs.Places.{order, Linked};
-ghost use Rattle.packing.specs.Moves.{MembersMoved, SameRounds, Movable, RoundsMoved, SameMembers, newPlace};
-ghost use Rattle.packing.specs.Answer.{repackedOf};
+ghost use Rattle.packing.specs.Building.{listed, Distinct, MembersCopied, RoundsCopied, Seated, Apart, Fillable, Filled, Repacked};
+ghost use Rattle.packing.specs.Cleared.{cleared};
 
-// The map with no pair and no member, and the same count of rounds ever taken in. What stands in the places is left: none is in use.
-pub fn clear(m: ListOrderedMultimap) -> ListOrderedMultimap
-    requires { ⌜ WellLinked m ⌝ }
-    ensures { λ r. ⌜ Does linked clear m (say done) r ⌝ }
+// Makes the empty map, whatever the arrays hold.
+#[rattlefmt::skip]
+#[no_mangle]
+pub extern "C" fn om_new(
+    keys: &mut Keys, lengths: &mut Lengths, next_key: &mut KeyLinks, previous_key: &mut KeyLinks,
+    values: &mut Values, key_index: &mut KeyIndex, next_value: &mut ValueLinks, previous_value: &mut ValueLinks,
+    next_index: &mut IndexLinks, previous_index: &mut IndexLinks, index: &mut Index,
+    members: &mut Counts, rounds: &mut Counts, taken: &mut u32,
+)
+    ensures { λ _. ⌜ WellLinked (left keys lengths «next_key» «previous_key» values «key_index» «next_value» «previous_value» «next_index» «previous_index» index members rounds taken) × (stateOf (left keys lengths «next_key» «previous_key» values «key_index» «next_value» «previous_value» «next_index» «previous_index» index members rounds taken) ≡ empty) ⌝ }
 {
-    let mut out = m;
-    let index = index::empty();
-    out.index = index;
-    out.keys_len = 0;
-    out.keys_fresh = 0;
-    out.values_len = 0;
-    out.values_fresh = 0;
-    out.next_key[256] = KeyPlace(MEMBERS);
-    out.previous_key[256] = KeyPlace(MEMBERS);
-    out.next_value[1024] = ValuePlace(ROUNDS);
-    out.previous_value[1024] = ValuePlace(ROUNDS);
-    out
+    *keys = [0; 256];
+    *lengths = [0; 256];
+    *next_key = [0; 257];
+    *previous_key = [0; 257];
+    *values = [0; 1024];
+    *key_index = [0; 1024];
+    *next_value = [0; 1025];
+    *previous_value = [0; 1025];
+    *next_index = [0; 1280];
+    *previous_index = [0; 1280];
+    *taken = 0;
+    vacate(
+        keys, lengths, next_key, previous_key, values, key_index, next_value, previous_value,
+        next_index, previous_index, index, members, rounds, taken,
+    );
 }
 
-// A map whose members are moved; and at each old member place the new one.
-struct Moved {
-    map: ListOrderedMultimap,
-    places: [u16; 256],
+// `clear`. T stays.
+#[rattlefmt::skip]
+#[no_mangle]
+pub extern "C" fn om_clear(
+    keys: &mut Keys, lengths: &mut Lengths, next_key: &mut KeyLinks, previous_key: &mut KeyLinks,
+    values: &mut Values, key_index: &mut KeyIndex, next_value: &mut ValueLinks, previous_value: &mut ValueLinks,
+    next_index: &mut IndexLinks, previous_index: &mut IndexLinks, index: &mut Index,
+    members: &mut Counts, rounds: &mut Counts, taken: &mut u32,
+    answer: &mut [u64; 4],
+)
+    ghost { Arrays }
+    requires { λ α. ⌜ lent keys lengths «next_key» «previous_key» values «key_index» «next_value» «previous_value» «next_index» «previous_index» index members rounds taken ≡ α ⌝ }
+    requires { λ α. ⌜ WellLinked α ⌝ }
+    ensures { λ α _. ⌜ Told linked C.clear α (left keys lengths «next_key» «previous_key» values «key_index» «next_value» «previous_value» «next_index» «previous_index» index members rounds taken) [] [] (now (answer .exit)) ⌝ }
+{
+    vacate(
+        keys, lengths, next_key, previous_key, values, key_index, next_value, previous_value,
+        next_index, previous_index, index, members, rounds, taken,
+    );
+    answers::tell(answer, Answer::Done);
 }
 
-// The members in the member places from 0 on, in order, with empty records. The list of rounds stays as it is, with the old member places.
-fn move_members(m: ListOrderedMultimap) -> Moved
-    requires { ⌜ Linked (membersOf m) ⌝ }
-    ensures { λ r. ⌜ MembersMoved (m .keys) (order (membersOf m)) (m .«keys_len») (r .places) (r .map) × SameRounds m (r .map) ⌝ }
+// `pack_to`: the i-th pair stands in the round place i afterwards, and the i-th member in the member place i.
+#[rattlefmt::skip]
+#[no_mangle]
+pub extern "C" fn om_pack_to(
+    keys: &mut Keys, lengths: &mut Lengths, next_key: &mut KeyLinks, previous_key: &mut KeyLinks,
+    values: &mut Values, key_index: &mut KeyIndex, next_value: &mut ValueLinks, previous_value: &mut ValueLinks,
+    next_index: &mut IndexLinks, previous_index: &mut IndexLinks, index: &mut Index,
+    members: &mut Counts, rounds: &mut Counts, taken: &mut u32,
+    keys_minimum: u64, values_minimum: u64, answer: &mut [u64; 4],
+)
+    ghost { Arrays }
+    requires { λ α. ⌜ lent keys lengths «next_key» «previous_key» values «key_index» «next_value» «previous_value» «next_index» «previous_index» index members rounds taken ≡ α ⌝ }
+    requires { λ α. ⌜ WellLinked α ⌝ }
+    ensures { λ α _. ⌜ Told linked (C.pack-to «keys_minimum» «values_minimum») α (left keys lengths «next_key» «previous_key» values «key_index» «next_value» «previous_value» «next_index» «previous_index» index members rounds taken) [] [] (now (answer .exit)) ⌝ }
 {
-    let keys = m.keys;
-    let next_key = m.next_key;
-    let held = m.keys_len;
-    let first = next_key[256];
-    let mut places = [0u16; 256];
-    let mut out = m;
-    out.keys_len = 0;
-    out.keys_fresh = 0;
-    out.next_key[256] = KeyPlace(MEMBERS);
-    out.previous_key[256] = KeyPlace(MEMBERS);
-    let mut at = first.0;
+    let few_keys = is_below(keys_minimum, members);
+    let few_values = is_below(values_minimum, rounds);
+    let too_many = is_above(keys_minimum, values_minimum);
+    if few_keys {
+        answers::tell(answer, Answer::Refused(4));
+        return;
+    }
+    if few_values {
+        answers::tell(answer, Answer::Refused(5));
+        return;
+    }
+    if too_many {
+        answers::tell(answer, Answer::Refused(6));
+        return;
+    }
+    pack(
+        keys, lengths, next_key, previous_key, values, key_index, next_value, previous_value,
+        next_index, previous_index, index, members, rounds, taken,
+    );
+    answers::tell(answer, Answer::Done);
+}
+
+// Whether a minimum is below what is held.
+fn is_below(minimum: u64, counts: &Counts) -> bool
+    ensures { λ r. ⌜ r ≡ ltb minimum (at (now (counts .entry)) 0) ⌝ }
+{
+    let held = links::get(counts, 0);
+    minimum < held as u64
+}
+
+// Whether a minimum is above what a map can hold.
+fn is_above(keys_minimum: u64, values_minimum: u64) -> bool
+    ensures { λ r. ⌜ r ≡ (ltb maxMembers «keys_minimum» || ltb maxRounds «values_minimum») ⌝ }
+{
+    (MEMBERS as u64) < keys_minimum || (ROUNDS as u64) < values_minimum
+}
+
+// Leaves no place in use: both lists end where they begin, and the index is empty. What stands in the places is left as it is.
+#[rattlefmt::skip]
+fn vacate(
+    keys: &mut Keys, lengths: &mut Lengths, next_key: &mut KeyLinks, previous_key: &mut KeyLinks,
+    values: &mut Values, key_index: &mut KeyIndex, next_value: &mut ValueLinks, previous_value: &mut ValueLinks,
+    next_index: &mut IndexLinks, previous_index: &mut IndexLinks, index: &mut Index,
+    members: &mut Counts, rounds: &mut Counts, taken: &mut u32,
+)
+    ghost { Arrays }
+    requires { λ α. ⌜ lent keys lengths «next_key» «previous_key» values «key_index» «next_value» «previous_value» «next_index» «previous_index» index members rounds taken ≡ α ⌝ }
+    ensures { λ α _. ⌜ left keys lengths «next_key» «previous_key» values «key_index» «next_value» «previous_value» «next_index» «previous_index» index members rounds taken ≡ cleared α ⌝ }
+{
+    links::put(next_key, MEMBERS, MEMBERS);
+    links::put(previous_key, MEMBERS, MEMBERS);
+    links::put(next_value, ROUNDS, ROUNDS);
+    links::put(previous_value, ROUNDS, ROUNDS);
+    *index = [index::EMPTY; 512];
+    *members = [0; 3];
+    *rounds = [0; 3];
+}
+
+// Copies the map out, and takes it in again from the empty map on: places are taken from 0 on then. T is set apart.
+#[rattlefmt::skip]
+fn pack(
+    keys: &mut Keys, lengths: &mut Lengths, next_key: &mut KeyLinks, previous_key: &mut KeyLinks,
+    values: &mut Values, key_index: &mut KeyIndex, next_value: &mut ValueLinks, previous_value: &mut ValueLinks,
+    next_index: &mut IndexLinks, previous_index: &mut IndexLinks, index: &mut Index,
+    members: &mut Counts, rounds: &mut Counts, taken: &mut u32,
+)
+    ghost { Arrays }
+    requires { λ α. ⌜ lent keys lengths «next_key» «previous_key» values «key_index» «next_value» «previous_value» «next_index» «previous_index» index members rounds taken ≡ α ⌝ }
+    requires { λ α. ⌜ WellLinked α ⌝ }
+    ensures { λ α _. ⌜ Repacked α (left keys lengths «next_key» «previous_key» values «key_index» «next_value» «previous_value» «next_index» «previous_index» index members rounds taken) ⌝ }
+{
+    let mut numbers: Keys = [0; 256];
+    let mut ranks: Lengths = [0; 256];
+    let mut owners: KeyIndex = [0; 1024];
+    let mut scores: Values = [0; 1024];
+    let keys_held = links::get(members, 0);
+    let values_held = links::get(rounds, 0);
+    let before = *taken;
+    copy_members(keys, next_key, members, &mut numbers, &mut ranks);
+    copy_rounds(values, key_index, next_value, rounds, &ranks, &mut owners, &mut scores);
+    vacate(
+        keys, lengths, next_key, previous_key, values, key_index, next_value, previous_value,
+        next_index, previous_index, index, members, rounds, taken,
+    );
+    seat(
+        keys, lengths, next_key, previous_key, values, key_index, next_value, previous_value,
+        next_index, previous_index, index, members, rounds, taken, &numbers, keys_held,
+    );
+    fill(
+        keys, lengths, next_key, previous_key, values, key_index, next_value, previous_value,
+        next_index, previous_index, index, members, rounds, taken, &owners, &scores, values_held,
+    );
+    *taken = before;
+}
+
+// Copies the members' numbers out, in order; and at each member's place how many come before it.
+fn copy_members<'a>(
+    keys: &'a Keys,
+    next_key: &'a KeyLinks,
+    members: &'a Counts,
+    numbers: &mut Keys,
+    ranks: &mut Lengths,
+)
+    ghost { List ℕ }
+    requires { λ ks. ⌜ listed (now «next_key») 256 (now members) ≡ ks ⌝ }
+    requires { λ ks. ⌜ Distinct ks 256 × (length (now numbers) ≡ 256) × (length (now ranks) ≡ 256) ⌝ }
+    ensures { λ ks _. ⌜ MembersCopied (now (keys .entry)) ks (length ks) (now (numbers .exit)) (now (ranks .exit)) ⌝ }
+{
+    let held = links::get(members, 0);
+    let mut x = KeyPlace(links::get(next_key, MEMBERS));
     let mut i: u16 = 0;
     while i < held {
-        let x = at as usize;
-        let next = next_key[x];
-        let member = keys[x];
-        places[x] = i;
-        let k = i as usize;
-        let last = out.previous_key[256];
-        out.next_key[last.0 as usize] = KeyPlace(i);
-        out.next_key[k] = KeyPlace(MEMBERS);
-        out.previous_key[k] = last;
-        out.previous_key[256] = KeyPlace(i);
-        out.keys[k] = member;
-        out.length[k] = 0;
-        let root = ROUNDS + i;
-        let cell = root as usize;
-        out.next_index[cell] = ValuePlace(root);
-        out.previous_index[cell] = ValuePlace(root);
-        at = next.0;
+        let k = multimap::member(keys, x);
+        links::put_wide(numbers, i, k);
+        links::put(ranks, x.0, i);
+        x = KeyPlace(links::get(next_key, x.0));
         i += 1;
-        out.keys_len = i;
-        out.keys_fresh = i;
     }
-    Moved { map: out, places }
 }
 
-// The rounds in the round places from 0 on, in order, each put at the back of the record of its new member place; the records are empty before.
-fn move_rounds(m: ListOrderedMultimap, places: [u16; 256]) -> ListOrderedMultimap
-    requires { ⌜ Movable m places ⌝ }
-    ensures { λ r. ⌜ RoundsMoved (m .values) (λ q. at places (keyAt (m .«key_index») q)) (order (roundsOf m)) (m .«values_len») r × SameMembers m r ⌝ }
+// Copies the rounds out, in order, each with what `ranks` has at its member's place.
+fn copy_rounds<'a>(
+    values: &'a Values,
+    key_index: &'a KeyIndex,
+    next_value: &'a ValueLinks,
+    rounds: &'a Counts,
+    ranks: &'a Lengths,
+    owners: &mut KeyIndex,
+    scores: &mut Values,
+)
+    ghost { List ℕ }
+    requires { λ vs. ⌜ listed (now «next_value») 1024 (now rounds) ≡ vs ⌝ }
+    requires { λ vs. ⌜ Distinct vs 1024 × (length (now owners) ≡ 1024) × (length (now scores) ≡ 1024) ⌝ }
+    ensures { λ vs _. ⌜ RoundsCopied (now (values .entry)) (now («key_index» .entry)) (now (ranks .entry)) vs (length vs) (now (owners .exit)) (now (scores .exit)) ⌝ }
 {
-    let values = m.values;
-    let key_index = m.key_index;
-    let next_value = m.next_value;
-    let held = m.values_len;
-    let first = next_value[1024];
-    let mut out = m;
-    out.values_len = 0;
-    out.values_fresh = 0;
-    out.next_value[1024] = ValuePlace(ROUNDS);
-    out.previous_value[1024] = ValuePlace(ROUNDS);
-    let mut at = first.0;
+    let held = links::get(rounds, 0);
+    let mut x = multimap::after(next_value, ValuePlace(ROUNDS));
     let mut i: u16 = 0;
     while i < held {
-        let x = at as usize;
-        let next = next_value[x];
-        let round = values[x];
-        let old = key_index[x];
-        let key = places[old.0 as usize];
-        let q = i as usize;
-        let k = key as usize;
-        let last = out.previous_value[1024];
-        out.next_value[last.0 as usize] = ValuePlace(i);
-        out.next_value[q] = ValuePlace(ROUNDS);
-        out.previous_value[q] = last;
-        out.previous_value[1024] = ValuePlace(i);
-        out.values[q] = round;
-        out.key_index[q] = KeyPlace(key);
-        let root = ROUNDS + key;
-        let cell = root as usize;
-        let tail = out.previous_index[cell];
-        out.next_index[tail.0 as usize] = ValuePlace(i);
-        out.next_index[q] = ValuePlace(root);
-        out.previous_index[q] = tail;
-        out.previous_index[cell] = ValuePlace(i);
-        let n = out.length[k];
-        out.length[k] = n + 1;
-        at = next.0;
+        let key = multimap::owner(key_index, x);
+        let rank = links::get(ranks, key.0);
+        let v = multimap::round(values, x);
+        links::put(owners, i, rank);
+        links::put_wide(scores, i, v);
+        x = multimap::after(next_value, x);
         i += 1;
-        out.values_len = i;
-        out.values_fresh = i;
     }
-    out
 }
 
-// The index with the new member places for the old ones. Each member stays in its place of the index, since its number stays.
-fn move_index(index: [u16; 512], places: [u16; 256]) -> [u16; 512]
-    ensures { λ r. ⌜ ((p : ℕ) → p < 512 → at r p ≡ newPlace places (at index p)) ⌝ }
+// Lets the first `held` of the numbers join as members, in order, each with no round yet.
+#[rattlefmt::skip]
+fn seat(
+    keys: &mut Keys, lengths: &mut Lengths, next_key: &mut KeyLinks, previous_key: &mut KeyLinks,
+    values: &mut Values, key_index: &mut KeyIndex, next_value: &mut ValueLinks, previous_value: &mut ValueLinks,
+    next_index: &mut IndexLinks, previous_index: &mut IndexLinks, index: &mut Index,
+    members: &mut Counts, rounds: &mut Counts, taken: &mut u32,
+    numbers: &Keys, held: u16,
+)
+    ghost { Arrays }
+    requires { λ α. ⌜ lent keys lengths «next_key» «previous_key» values «key_index» «next_value» «previous_value» «next_index» «previous_index» index members rounds taken ≡ α ⌝ }
+    requires { λ α. ⌜ Seated (now numbers) 0 α × Apart (now numbers) held ⌝ }
+    ensures { λ _ _. ⌜ Seated (now (numbers .entry)) held (left keys lengths «next_key» «previous_key» values «key_index» «next_value» «previous_value» «next_index» «previous_index» index members rounds taken) ⌝ }
 {
-    let mut out = index;
-    let mut p = 0;
-    while p < 512 {
-        let key = out[p];
-        if key < MEMBERS {
-            out[p] = places[key as usize];
-        }
-        p += 1;
+    let mut i: u16 = 0;
+    while i < held {
+        let k = links::get_wide(numbers, i);
+        let found = index::find(index, keys, k);
+        let Found::Absent(at, _) = found else {
+            return;
+        };
+        let _place = changing::join(
+            keys, lengths, next_key, previous_key, values, key_index, next_value, previous_value,
+            next_index, previous_index, index, members, rounds, taken, k, at,
+        );
+        i += 1;
     }
-    out
 }
 
-// What `pack_to` answers: done; or refused, by 4, 5 or 6.
-pub enum Repacked {
-    Done,
-    MembersBelow,
-    RoundsBelow,
-    Above,
-}
-
-pub struct Packing {
-    pub map: ListOrderedMultimap,
-    pub answer: Repacked,
-}
-
-// The i-th pair in the round place i, and the i-th member in the member place i.
-pub fn pack_to(m: ListOrderedMultimap, members: u64, rounds: u64) -> Packing
-    requires { ⌜ WellLinked m ⌝ }
-    ensures { λ r. ⌜ Does linked (pack-to members rounds) m (say (repackedOf (r .answer))) (r .map) ⌝ }
+// Adds the first `held` of the scores as rounds, in order, each of the member place that stands beside it.
+#[rattlefmt::skip]
+fn fill(
+    keys: &mut Keys, lengths: &mut Lengths, next_key: &mut KeyLinks, previous_key: &mut KeyLinks,
+    values: &mut Values, key_index: &mut KeyIndex, next_value: &mut ValueLinks, previous_value: &mut ValueLinks,
+    next_index: &mut IndexLinks, previous_index: &mut IndexLinks, index: &mut Index,
+    members: &mut Counts, rounds: &mut Counts, taken: &mut u32,
+    owners: &KeyIndex, scores: &Values, held: u16,
+)
+    ghost { Arrays }
+    requires { λ α. ⌜ lent keys lengths «next_key» «previous_key» values «key_index» «next_value» «previous_value» «next_index» «previous_index» index members rounds taken ≡ α ⌝ }
+    requires { λ α. ⌜ Fillable (now owners) held α ⌝ }
+    ensures { λ α _. ⌜ Filled α (now (owners .entry)) (now (scores .entry)) held (left keys lengths «next_key» «previous_key» values «key_index» «next_value» «previous_value» «next_index» «previous_index» index members rounds taken) ⌝ }
 {
-    let members_held = m.keys_len as u64;
-    let rounds_held = m.values_len as u64;
-    if members < members_held {
-        return Packing {
-            map: m,
-            answer: Repacked::MembersBelow,
-        };
-    }
-    if rounds < rounds_held {
-        return Packing {
-            map: m,
-            answer: Repacked::RoundsBelow,
-        };
-    }
-    if (MEMBERS as u64) < members || (ROUNDS as u64) < rounds {
-        return Packing {
-            map: m,
-            answer: Repacked::Above,
-        };
-    }
-    let old = m.index;
-    let moved = move_members(m);
-    let places = moved.places;
-    let mut packed = move_rounds(moved.map, places);
-    let index = move_index(old, places);
-    packed.index = index;
-    Packing {
-        map: packed,
-        answer: Repacked::Done,
+    let mut j: u16 = 0;
+    while j < held {
+        let owner = KeyPlace(links::get(owners, j));
+        let v = links::get_wide(scores, j);
+        changing::add(
+            keys, lengths, next_key, previous_key, values, key_index, next_value, previous_value,
+            next_index, previous_index, index, members, rounds, taken, owner, v,
+        );
+        j += 1;
     }
 }

@@ -1,3 +1,3 @@
 -- Laws that belong to no one function.
-pub mod Members
-pub mod Walks
+pub mod Entries
+pub mod Steps

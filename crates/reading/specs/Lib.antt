@@ -1,2 +1,3 @@
 -- What the contracts of `reading` cite.
-pub mod Answers
+pub mod Reads
+pub mod Entry

@@ -1,200 +1,192 @@
-// The calls that only read. Each copies the arrays that it reads, and no others.
-mod answer;
-
-pub use answer::Entry;
+// The calls that only read, in place. Each is lent the arrays that it reads, and no others, and changes none of them. What they tell is the
+// step's of every well-linked map with these arrays; no function has a premise.
+use answers::Answer;
 use index::Found;
-use multimap::Counted;
-use multimap::Got;
-use multimap::ListOrderedMultimap;
+use multimap::Counts;
+use multimap::Index;
+use multimap::IndexLinks;
+use multimap::KeyIndex;
+use multimap::KeyLinks;
+use multimap::Keys;
+use multimap::Lengths;
 use multimap::MEMBERS;
 use multimap::ROUNDS;
-ghost use Rattle.steps.specs.Call.{count, present, lend};
+use multimap::ValueLinks;
+use multimap::ValuePlace;
+use multimap::Values;
+ghost use mathlib.Core.Path.{_≡_};
+ghost use mathlib.Core.List.{[]};
 ghost use Rattle.steps.specs.Call as C;
-ghost use Rattle.steps.specs.Step.{say, write};
-ghost use Rattle.steps.specs.Trace.{Does};
-ghost use Rattle.multimap.specs.WellLinked.{WellLinked, linked};
-ghost use Rattle.multimap.specs.Answers.{gotOf, countedOf};
-ghost use Rattle.reading.specs.Answers.{entryAnswerOf};
+ghost use Rattle.answers.specs.Answers.{answerOf};
+ghost use Rattle.reading.specs.Reads.{Reads};
+ghost use Rattle.reading.specs.Entry.{entryIn};
 
-// The member's first round.
-pub fn get(m: ListOrderedMultimap, k: u64) -> Got
-    requires { ⌜ WellLinked m ⌝ }
-    ensures { λ r. ⌜ Does linked (C.get k) m (say (gotOf r)) m ⌝ }
+// Tells the member's first round.
+#[no_mangle]
+#[rattlefmt::skip]
+pub extern "C" fn om_get<'a>(
+    keys: &'a Keys, values: &'a Values, next_index: &'a IndexLinks, index: &'a Index, k: u64, answer: &mut [u64; 4],
+)
+    ensures { λ _. ⌜ Reads (C.get k) [] [] (now (answer .exit)) (λ α. (now (keys .entry) ≡ α .keys) × (now (values .entry) ≡ α .values)
+        × (now («next_index» .entry) ≡ α .«next_index») × (now (index .entry) ≡ α .index)) ⌝ }
 {
-    let index = m.index;
-    let keys = m.keys;
-    let found = index::find(&index, &keys, k);
-    let Found::At(_, at, _) = found else {
-        return Got::Nothing;
+    let found = index::find(index, keys, k);
+    let Found::At(_, key, _) = found else {
+        answers::tell(answer, Answer::Nothing);
+        return;
     };
-    let next = m.next_index;
-    let values = m.values;
-    let root = (ROUNDS + at.0) as usize;
-    let head = next[root];
-    let x = head.0 as usize;
-    let value = values[x];
-    Got::Round(value)
+    let head = multimap::head(next_index, key);
+    let round = multimap::round(values, head);
+    answers::tell(answer, Answer::Round(round));
 }
 
-// The member's rounds, in order, to the front of `out`.
-pub fn get_all(m: ListOrderedMultimap, k: u64, out: &mut [u64]) -> Counted
-    requires { ⌜ WellLinked m ⌝ }
-    ensures { λ r. ⌜ Does linked (C.get-all k (now (out .entry))) m (write (countedOf r) (now (out .exit))) m ⌝ }
+// Writes the member's rounds, in order, to the front of `out`, and tells how many.
+#[no_mangle]
+#[rattlefmt::skip]
+pub extern "C" fn om_get_all<'a>(
+    keys: &'a Keys, lengths: &'a Lengths, values: &'a Values, next_index: &'a IndexLinks, index: &'a Index,
+    k: u64, out: &mut [u64], answer: &mut [u64; 4],
+)
+    ensures { λ _. ⌜ Reads (C.get-all k (now (out .entry))) (now (out .exit)) [] (now (answer .exit)) (λ α. (now (keys .entry) ≡ α .keys)
+        × (now (lengths .entry) ≡ α .lengths) × (now (values .entry) ≡ α .values) × (now («next_index» .entry) ≡ α .«next_index»)
+        × (now (index .entry) ≡ α .index)) ⌝ }
 {
-    let index = m.index;
-    let keys = m.keys;
-    let found = index::find(&index, &keys, k);
-    let Found::At(_, at, _) = found else {
-        return Counted::Count(0);
+    let found = index::find(index, keys, k);
+    let Found::At(_, key, _) = found else {
+        answers::tell(answer, Answer::Count(0));
+        return;
     };
-    let lengths = m.length;
-    let key = at.0 as usize;
-    let n = lengths[key];
-    let rounds = n as usize;
-    if out.len() < rounds {
-        return Counted::Short;
+    let n = multimap::size(lengths, key);
+    let head = multimap::head(next_index, key);
+    let a = copying::copy(values, next_index, head.0, n, out);
+    answers::tell(answer, a);
+}
+
+// Tells the member's entry.
+#[no_mangle]
+#[rattlefmt::skip]
+pub extern "C" fn om_entry<'a>(keys: &'a Keys, lengths: &'a Lengths, index: &'a Index, k: u64, answer: &mut [u64; 4])
+    ensures { λ _. ⌜ Reads (C.entry k) [] [] (now (answer .exit)) (λ α. (now (keys .entry) ≡ α .keys)
+        × (now (lengths .entry) ≡ α .lengths) × (now (index .entry) ≡ α .index)) ⌝ }
+{
+    let a = entry(keys, lengths, index, k);
+    answers::tell(answer, a);
+}
+
+// Tells how many rounds the member has.
+#[no_mangle]
+#[rattlefmt::skip]
+pub extern "C" fn om_entry_len<'a>(keys: &'a Keys, lengths: &'a Lengths, index: &'a Index, k: u64, answer: &mut [u64; 4])
+    ensures { λ _. ⌜ Reads (C.entry-len k) [] [] (now (answer .exit)) (λ α. (now (keys .entry) ≡ α .keys)
+        × (now (lengths .entry) ≡ α .lengths) × (now (index .entry) ≡ α .index)) ⌝ }
+{
+    let a = entry(keys, lengths, index, k);
+    let Answer::Occupied(n) = a else {
+        answers::tell(answer, Answer::Count(0));
+        return;
+    };
+    answers::tell(answer, Answer::Count(n));
+}
+
+// Tells whether the number is a member.
+#[no_mangle]
+pub extern "C" fn om_contains_key<'a>(
+    keys: &'a Keys,
+    index: &'a Index,
+    k: u64,
+    answer: &mut [u64; 4],
+)
+    ensures { λ _. ⌜ Reads (C.contains-key k) [] [] (now (answer .exit)) (λ α. (now (keys .entry) ≡ α .keys)
+        × (now (index .entry) ≡ α .index)) ⌝ }
+{
+    let found = index::find(index, keys, k);
+    let Found::At(_, _, _) = found else {
+        answers::tell(answer, Answer::Present(false));
+        return;
+    };
+    answers::tell(answer, Answer::Present(true));
+}
+
+// Writes the members, in joining order, to the front of `out`, and tells how many.
+#[no_mangle]
+#[rattlefmt::skip]
+pub extern "C" fn om_keys<'a>(keys: &'a Keys, next_key: &'a KeyLinks, members: &'a Counts, out: &mut [u64], answer: &mut [u64; 4])
+    ensures { λ _. ⌜ Reads (C.keys (now (out .entry))) (now (out .exit)) [] (now (answer .exit)) (λ α. (now (keys .entry) ≡ α .keys)
+        × (now («next_key» .entry) ≡ α .«next_key») × (now (members .entry) ≡ α .members)) ⌝ }
+{
+    let n = links::get(members, 0);
+    let first = links::get(next_key, MEMBERS);
+    let a = copying::copy(keys, next_key, first, n, out);
+    answers::tell(answer, a);
+}
+
+// Tells how many members there are.
+#[no_mangle]
+pub extern "C" fn om_keys_len(members: &Counts, answer: &mut [u64; 4])
+    ensures { λ _. ⌜ Reads C.keys-len [] [] (now (answer .exit)) (λ α. now (members .entry) ≡ α .members) ⌝ }
+{
+    let n = links::get(members, 0);
+    answers::tell(answer, Answer::Count(n as u64));
+}
+
+// Tells how many rounds there are.
+#[no_mangle]
+pub extern "C" fn om_values_len(rounds: &Counts, answer: &mut [u64; 4])
+    ensures { λ _. ⌜ Reads C.values-len [] [] (now (answer .exit)) (λ α. now (rounds .entry) ≡ α .rounds) ⌝ }
+{
+    let n = links::get(rounds, 0);
+    answers::tell(answer, Answer::Count(n as u64));
+}
+
+// Writes the pairs in global order, the members to the front of `out` and the rounds to that of `out2`, and tells how many.
+#[no_mangle]
+#[rattlefmt::skip]
+pub extern "C" fn om_iter<'a>(
+    keys: &'a Keys, values: &'a Values, key_index: &'a KeyIndex, next_value: &'a ValueLinks, rounds: &'a Counts,
+    out: &mut [u64], out2: &mut [u64], answer: &mut [u64; 4],
+)
+    ensures { λ _. ⌜ Reads (C.iter (now (out .entry)) (now (out2 .entry))) (now (out .exit)) (now (out2 .exit)) (now (answer .exit))
+        (λ α. (now (keys .entry) ≡ α .keys) × (now (values .entry) ≡ α .values) × (now («key_index» .entry) ≡ α .«key_index»)
+        × (now («next_value» .entry) ≡ α .«next_value») × (now (rounds .entry) ≡ α .rounds)) ⌝ }
+{
+    let n = links::get(rounds, 0);
+    let end = n as usize;
+    if out.len() < end || out2.len() < end {
+        answers::tell(answer, Answer::Refused(3));
+        return;
     }
-    let next = m.next_index;
-    let values = m.values;
-    let root = (ROUNDS + at.0) as usize;
-    let head = next[root];
-    let mut place = head.0;
+    let mut x = multimap::after(next_value, ValuePlace(ROUNDS));
     let mut i = 0;
-    while i < rounds {
-        let x = place as usize;
-        out[i] = values[x];
-        let after = next[x];
-        place = after.0;
+    while i < end {
+        let key = multimap::owner(key_index, x);
+        let member = multimap::member(keys, key);
+        let round = multimap::round(values, x);
+        out[i] = member;
+        out2[i] = round;
+        x = multimap::after(next_value, x);
         i += 1;
     }
-    Counted::Count(n)
+    let pairs = n as u64;
+    answers::tell(answer, Answer::Count(pairs));
 }
 
-// How many rounds the member has.
-pub fn entry_len(m: ListOrderedMultimap, k: u64) -> u16
-    requires { ⌜ WellLinked m ⌝ }
-    ensures { λ r. ⌜ Does linked (C.entry-len k) m (say (count r)) m ⌝ }
+// Tells how many rounds were ever taken in.
+#[no_mangle]
+pub extern "C" fn om_taken(taken: &u32, answer: &mut [u64; 4])
+    ensures { λ _. ⌜ Reads C.taken [] [] (now (answer .exit)) (λ α. now (taken .entry) ≡ α .taken) ⌝ }
 {
-    let index = m.index;
-    let keys = m.keys;
-    let found = index::find(&index, &keys, k);
-    let Found::At(_, at, _) = found else {
-        return 0;
+    let n = *taken as u64;
+    answers::tell(answer, Answer::Count(n));
+}
+
+// The member's entry: `Occupied` with how many rounds it has, or `Vacant` with the number that is no member.
+pub fn entry<'a>(keys: &'a Keys, lengths: &'a Lengths, index: &'a Index, k: u64) -> Answer
+    ensures { λ r. ⌜ answerOf r ≡ entryIn (now (keys .entry)) (now (lengths .entry)) (now (index .entry)) k ⌝ }
+{
+    let found = index::find(index, keys, k);
+    let Found::At(_, key, _) = found else {
+        return Answer::Vacant(k);
     };
-    let lengths = m.length;
-    let x = at.0 as usize;
-    lengths[x]
-}
-
-// Whether the number is a member.
-pub fn contains_key(m: ListOrderedMultimap, k: u64) -> bool
-    requires { ⌜ WellLinked m ⌝ }
-    ensures { λ r. ⌜ Does linked (C.contains-key k) m (say (present r)) m ⌝ }
-{
-    let index = m.index;
-    let keys = m.keys;
-    let found = index::find(&index, &keys, k);
-    match found {
-        Found::At(_, _, _) => true,
-        Found::Absent(_, _) => false,
-    }
-}
-
-// The member's entry.
-pub fn entry(m: ListOrderedMultimap, k: u64) -> Entry
-    requires { ⌜ WellLinked m ⌝ }
-    ensures { λ r. ⌜ Does linked (C.entry k) m (say (entryAnswerOf r)) m ⌝ }
-{
-    let index = m.index;
-    let keys = m.keys;
-    let found = index::find(&index, &keys, k);
-    let Found::At(_, at, _) = found else {
-        return Entry::Vacant(k);
-    };
-    let lengths = m.length;
-    let x = at.0 as usize;
-    let n = lengths[x];
-    Entry::Occupied(n)
-}
-
-// The members, in joining order, to the front of `out`.
-pub fn keys(m: ListOrderedMultimap, out: &mut [u64]) -> Counted
-    requires { ⌜ WellLinked m ⌝ }
-    ensures { λ r. ⌜ Does linked (C.keys (now (out .entry))) m (write (countedOf r) (now (out .exit))) m ⌝ }
-{
-    let n = m.keys_len;
-    let members = n as usize;
-    if out.len() < members {
-        return Counted::Short;
-    }
-    let next = m.next_key;
-    let keys = m.keys;
-    let first = next[MEMBERS as usize];
-    let mut place = first.0;
-    let mut i = 0;
-    while i < members {
-        let x = place as usize;
-        out[i] = keys[x];
-        let after = next[x];
-        place = after.0;
-        i += 1;
-    }
-    Counted::Count(n)
-}
-
-// The pairs in global order: the members to the front of `members`, and the rounds to the front of `rounds`.
-pub fn iter(m: ListOrderedMultimap, members: &mut [u64], rounds: &mut [u64]) -> Counted
-    requires { ⌜ WellLinked m ⌝ }
-    ensures { λ r. ⌜ Does linked (C.iter (now (members .entry)) (now (rounds .entry))) m
-        (record { answer = countedOf r; slices = lend (now (members .exit)) (now (rounds .exit)) }) m ⌝ }
-{
-    let n = m.values_len;
-    let pairs = n as usize;
-    if members.len() < pairs || rounds.len() < pairs {
-        return Counted::Short;
-    }
-    let next = m.next_value;
-    let values = m.values;
-    let key_index = m.key_index;
-    let keys = m.keys;
-    let first = next[ROUNDS as usize];
-    let mut place = first.0;
-    let mut i = 0;
-    while i < pairs {
-        let x = place as usize;
-        let at = key_index[x];
-        let key = at.0 as usize;
-        let member = keys[key];
-        let round = values[x];
-        members[i] = member;
-        rounds[i] = round;
-        let after = next[x];
-        place = after.0;
-        i += 1;
-    }
-    Counted::Count(n)
-}
-
-// How many members there are.
-pub fn keys_len(m: ListOrderedMultimap) -> u16
-    requires { ⌜ WellLinked m ⌝ }
-    ensures { λ r. ⌜ Does linked C.keys-len m (say (count r)) m ⌝ }
-{
-    m.keys_len
-}
-
-// How many rounds there are.
-pub fn values_len(m: ListOrderedMultimap) -> u16
-    requires { ⌜ WellLinked m ⌝ }
-    ensures { λ r. ⌜ Does linked C.values-len m (say (count r)) m ⌝ }
-{
-    m.values_len
-}
-
-// How many rounds were ever taken in.
-pub fn taken(m: ListOrderedMultimap) -> u32
-    requires { ⌜ WellLinked m ⌝ }
-    ensures { λ r. ⌜ Does linked C.taken m (say (count r)) m ⌝ }
-{
-    m.taken
+    let n = multimap::size(lengths, key);
+    Answer::Occupied(n as u64)
 }

@@ -12,49 +12,15 @@ use Rattle.steps.specs.State.{empty}
 use Rattle.steps.specs.Step.{after}
 use Rattle.multimap.specs.Map.{stateOf}
 use Rattle.steps.specs.Call as C
-use Rattle.steps.specs.Call.{Call, lent}
-use Rattle.multimap.specs.declared.ListOrderedMultimap.{ListOrderedMultimap}
-use Rattle.replay.specs.Tape.{callOf, known, fits, decode}
-use Rattle.replay.specs.Encode.{triple, marksOf, numbers, lentOuts, lentOuts2, allMarks}
+use Rattle.steps.proofs.Views.{view-back}
+use Rattle.steps.specs.Call.{Call, view}
+use Rattle.multimap.specs.Arrays.{Arrays}
+use Rattle.replay.specs.Tape.{known, fits, decode}
+use Rattle.replay.specs.Encode.{numbers, lentOuts, lentOuts2, allMarks}
 use Rattle.replay.specs.Played.{Played}
 use Rattle.replay.proofs.Tapes.{decode-call}
 
-abbrev op : Call → ℕ
-op c = triple c .0
-
-abbrev k : Call → ℕ
-k c = triple c .1 .0
-
-abbrev v : Call → ℕ
-v c = triple c .1 .1
-
-call-again : (c : Call) → callOf (op c) (k c) (v c) (lent c .out) (lent c .out2) (marksOf c) ≡ c
-call-again (C.append k v) = refl
-call-again (C.insert k v) = refl
-call-again (C.insert-all k v out) = refl
-call-again (C.remove k) = refl
-call-again (C.remove-all k out) = refl
-call-again (C.entry k) = refl
-call-again (C.occupied-append k v) = refl
-call-again (C.occupied-insert k v) = refl
-call-again (C.occupied-remove-entry k) = refl
-call-again (C.vacant-insert k v) = refl
-call-again C.pop-front = refl
-call-again C.pop-back = refl
-call-again (C.retain marks) = refl
-call-again (C.pack-to a b) = refl
-call-again C.clear = refl
-call-again (C.get k) = refl
-call-again (C.get-all k out) = refl
-call-again (C.entry-len k) = refl
-call-again (C.contains-key k) = refl
-call-again (C.keys out) = refl
-call-again C.keys-len = refl
-call-again C.values-len = refl
-call-again (C.iter ks vs) = refl
-call-again C.taken = refl
-
-is-known : (c : Call) → known (op c) (length (lent c .out)) (length (lent c .out2)) (length (marksOf c)) ≡ true
+is-known : (c : Call) → known (view c .number) (length (view c .out)) (length (view c .out2)) (length (view c .marks)) ≡ true
 is-known (C.append k v) = refl
 is-known (C.insert k v) = refl
 is-known (C.insert-all k v out) = refl
@@ -99,14 +65,14 @@ pub decode-encode : (cs : List Call) (space : ℕ) → 4 * length cs ≤ space �
 unfolding decode
 decode-encode [] space h = refl
 decode-encode (c ∷ cs) space h =
-    decode-call (op c) (k c) (v c) (length (lent c .out)) (length (lent c .out2)) (length (marksOf c)) (numbers cs) (lentOuts (c ∷ cs)) (lentOuts2 (c ∷ cs)) (allMarks (c ∷ cs)) space
-    (fits-again (op c) (length (lent c .out)) (length (lent c .out2)) (length (marksOf c)) (length (lentOuts (c ∷ cs))) (length (lentOuts2 (c ∷ cs))) (length (allMarks (c ∷ cs))) space
-    (is-known c) (front-in (lent c .out) (lentOuts cs)) (front-in (lent c .out2) (lentOuts2 cs)) (front-in (marksOf c) (allMarks cs)) (omega arith))
-    ∙ rw (first (lent c .out) (lentOuts cs), first (lent c .out2) (lentOuts2 cs), first (marksOf c) (allMarks cs), behind (lent c .out) (lentOuts cs), behind (lent c .out2) (lentOuts2 cs), behind (marksOf c) (allMarks cs))
-    (ap₂ (λ (x : Call) (xs : List Call). x ∷ xs) (call-again c) (decode-encode cs (space - 4) (omega arith)))
+    decode-call (view c .number) (view c .k) (view c .v) (length (view c .out)) (length (view c .out2)) (length (view c .marks)) (numbers cs) (lentOuts (c ∷ cs)) (lentOuts2 (c ∷ cs)) (allMarks (c ∷ cs)) space
+    (fits-again (view c .number) (length (view c .out)) (length (view c .out2)) (length (view c .marks)) (length (lentOuts (c ∷ cs))) (length (lentOuts2 (c ∷ cs))) (length (allMarks (c ∷ cs))) space
+    (is-known c) (front-in (view c .out) (lentOuts cs)) (front-in (view c .out2) (lentOuts2 cs)) (front-in (view c .marks) (allMarks cs)) (omega arith))
+    ∙ rw (first (view c .out) (lentOuts cs), first (view c .out2) (lentOuts2 cs), first (view c .marks) (allMarks cs), behind (view c .out) (lentOuts cs), behind (view c .out2) (lentOuts2 cs), behind (view c .marks) (allMarks cs))
+    (ap₂ (λ (x : Call) (xs : List Call). x ∷ xs) (view-back c) (decode-encode cs (space - 4) (omega arith)))
 
 -- so replay makes all calls of the list, and its claim is one about the list itself
-pub all-made : (cs : List Call) (ans outs′ outs2′ ans′ : List ℕ) (m′ : ListOrderedMultimap) (n : ℕ) → 4 * length cs ≤ length ans
+pub all-made : (cs : List Call) (ans outs′ outs2′ ans′ : List ℕ) (m′ : Arrays) (n : ℕ) → 4 * length cs ≤ length ans
     → Played (numbers cs) (lentOuts cs) (lentOuts2 cs) (allMarks cs) ans outs′ outs2′ ans′ m′ n → (n ≡ length cs) × (stateOf m′ ≡ after cs empty)
 all-made cs ans outs′ outs2′ ans′ m′ n h p =
     (p .number ∙ ap length (decode-encode cs (length ans) h), p .demand-3 .obeys .state ∙ ap (λ (l : List Call). after l empty) (decode-encode cs (length ans) h))

@@ -1,23 +1,24 @@
 -- What one turn of a run does to its place: it stops there, or is past a call. Assumes nothing.
-use mathlib.Core.Path.{_≡_, refl, ap, sym, _∙_}
+use mathlib.Core.Path.{_≡_, refl, ap, sym, _∙_, subst}
 use mathlib.Core.Bool.{Bool, true, false, cond, false≢true, true≢false}
-use mathlib.Core.List.{List, []}
+use mathlib.Core.List.{List, [], _∷_}
 use Prim.Native.Nat.{ℕ, suc, _+_, _-_, _≤_, _<_}
 use native.Mathlib.Omega.{arith}
 use lib.ListN.{length, take, drop, length-drop}
 use lib.Seq.{length-take-le}
 use borrow.Rule.Slice.PartMut.{putMid}
 use Rattle.multimap.specs.WellLinked.{WellLinked, linked}
-use Rattle.multimap.specs.declared.ListOrderedMultimap.{ListOrderedMultimap}
+use Rattle.multimap.specs.Arrays.{Arrays}
 use Rattle.steps.specs.Told.{Told}
-use Rattle.replay.specs.Tape.{callOf}
+use Rattle.steps.specs.Call.{callOf, lends, lendsTwo}
+use Rattle.turn.specs.Turned.{Turned, had}
 use Rattle.replay.specs.Place.{headAt, fitsHead, Ready, stopped, Past, Within, rest, At, Advanced}
 use Rattle.replay.specs.declared.Head.{Head}
 use Rattle.replay.specs.declared.Place.{Place}
 use Rattle.replay.proofs.Tapes.{Fits, fits-says}
 use Rattle.replay.proofs.Running.{ended-short, ended-not, turn-on}
 
-module _ (calls marks : List ℕ) (p : Place) (outs outs2 ans : List ℕ) (m : ListOrderedMultimap) where
+module _ (calls marks : List ℕ) (p : Place) (outs outs2 ans : List ℕ) (m : Arrays) where
   stays : (q : Place) → q ≡ stopped p → rest calls marks p outs outs2 ans ≡ [] → Advanced calls marks p outs outs2 ans m q outs outs2 ans m
   stays q e r = rw e (record { keeps = λ outs₀ outs2₀ ans₀ m₀ v. v; ended = λ h. r; onward = λ h. absurd (false≢true h) })
 
@@ -55,7 +56,7 @@ module _ (calls marks : List ℕ) (p : Place) (outs outs2 ans : List ℕ) (m : L
           length-take-le b (drop (p .answer) ans) (omega (arith, length-drop (p .answer) ans, room .space-in)) ∙ b-is,
         )
 
-        pub goes-on : (q : Place) (m′ : ListOrderedMultimap) (o o2 k : List ℕ) → Past p h q → length o ≡ length (take n (drop (p .out) outs)) → length o2 ≡ length (take n2 (drop (p .out2) outs2))
+        pub goes-on : (q : Place) (m′ : Arrays) (o o2 k : List ℕ) → Past p h q → length o ≡ length (take n (drop (p .out) outs)) → length o2 ≡ length (take n2 (drop (p .out2) outs2))
             → Told linked (callOf (h .op) (h .k) (h .v) (take n (drop (p .out) outs)) (take n2 (drop (p .out2) outs2)) (take n3 (drop (p .mark) marks))) m m′ o o2 k
             → Advanced calls marks p outs outs2 ans m q (putMid (p .out) n outs o) (putMid (p .out2) n2 outs2 o2) (putMid (p .answer) b ans k) m′
         goes-on q m′ o o2 k past ol o2l t =
@@ -74,7 +75,7 @@ module _ (calls marks : List ℕ) (p : Place) (outs outs2 ans : List ℕ) (m : L
             mark-is : q .mark ≡ p .mark + n3
             mark-is = past .mark ∙ ap (λ (x : ℕ). p .mark + x) (sym n3-is)
 
-            at-q : (outs₀ outs2₀ ans₀ : List ℕ) (m₀ : ListOrderedMultimap) → At calls marks outs₀ outs2₀ ans₀ m₀ p outs outs2 ans m
+            at-q : (outs₀ outs2₀ ans₀ : List ℕ) (m₀ : Arrays) → At calls marks outs₀ outs2₀ ans₀ m₀ p outs outs2 ans m
                 → At calls marks outs₀ outs2₀ ans₀ m₀ q (putMid (p .out) n outs o) (putMid (p .out2) n2 outs2 o2) (putMid (p .answer) b ans k) m′
             at-q outs₀ outs2₀ ans₀ m₀ v =
                 rw (past .call, out-is, out2-is, mark-is, past .answer, past .ran, b-is)
@@ -83,7 +84,7 @@ module _ (calls marks : List ℕ) (p : Place) (outs outs2 ans : List ℕ) (m : L
                 whole (rw (← n-is, ← n2-is, ← n3-is, is) at f) (ol ∙ part) (o2l ∙ part2) (rw is at t))
 
 -- where a run stands is within its slices
-pub at-within : (calls marks outs₀ outs2₀ ans₀ : List ℕ) (m₀ : ListOrderedMultimap) (p : Place) (outs outs2 ans : List ℕ) (m : ListOrderedMultimap) → At calls marks outs₀ outs2₀ ans₀ m₀ p outs outs2 ans m
+pub at-within : (calls marks outs₀ outs2₀ ans₀ : List ℕ) (m₀ : Arrays) (p : Place) (outs outs2 ans : List ℕ) (m : Arrays) → At calls marks outs₀ outs2₀ ans₀ m₀ p outs outs2 ans m
     → Within p calls outs outs2 marks ans
 at-within calls marks outs₀ outs2₀ ans₀ m₀ p outs outs2 ans m v =
     record { call = v .i-in; out = v .at-in; out2 = v .at2-in; mark = v .at3-in; answer = v .a-in; ran = v .ran-is }
@@ -98,3 +99,20 @@ nearer p q calls e h o = rw e (go (q .more) refl)
     go : (b : Bool) → q .more ≡ b → cond b (suc (length calls - q .call)) 0 < suc (length calls - p .call)
     go true f = omega (arith, o f)
     go false f = omega arith
+
+-- slices that the call does not have are empty, and stay so
+pub turned-told : {op k v : ℕ} {m m′ : Arrays} {out out2 marks out′ out2′ told ans : List ℕ} → Ready m op out out2
+    → Turned op k v m m′ out out2 marks out′ out2′ told → ans ≡ told → Told linked (callOf op k v out out2 marks) m m′ out′ out2′ ans
+turned-told {op} {k} {v} {m} {m′} {out} {out2} {marks} {out′} {out2′} {told} {ans} r t stored =
+    rw stored
+    (subst (λ (x : List ℕ). Told linked (callOf op k v out out2 marks) m m′ x out2′ told) (one (lends op) out′ (λ e. ap length (t .kept e) ∙ r .no-slice e))
+    (subst (λ (x : List ℕ). Told linked (callOf op k v out out2 marks) m m′ (had (lends op) out′) x told)
+    (one (lendsTwo op) out2′ (λ e. ap length (t .kept2 e) ∙ r .no-second e)) (t .told)))
+  where
+    none : (l : List ℕ) → length l ≡ 0 → [] ≡ l
+    none [] e = refl
+    none (x ∷ l) e = absurd (omega arith)
+
+    one : (b : Bool) (l : List ℕ) → (b ≡ false → length l ≡ 0) → had b l ≡ l
+    one true l h = refl
+    one false l h = none l (h refl)

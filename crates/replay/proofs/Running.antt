@@ -12,7 +12,8 @@ use lib.Seq.{drop-cons, drop-drop, take-at, drop-at, length-take-le}
 use borrow.Rule.Slice.PartMut.{putMid, same-len-mid}
 use Rattle.steps.specs.Trace.{Kind}
 use Rattle.steps.specs.Told.{Told}
-use Rattle.replay.specs.Tape.{callOf, fits, decode, Ran, Reached}
+use Rattle.steps.specs.Call.{callOf}
+use Rattle.replay.specs.Tape.{fits, decode, Ran, Reached}
 use Rattle.steps.proofs.Coded.{coded-length}
 use Rattle.replay.proofs.Tapes.{decode-short, decode-not, Fits, fits-says, ran-ended, ran-call}
 

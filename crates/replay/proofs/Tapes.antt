@@ -16,11 +16,12 @@ use Rattle.steps.specs.Trace.{Kind, Trace, stop, call}
 use Rattle.steps.specs.Coded.{coded}
 use Rattle.steps.proofs.Coded.{coded-length}
 use Rattle.steps.specs.Told.{Told}
-use Rattle.replay.specs.Tape.{callOf, lends, known, fits, decode, outsOf, outs2Of, answersOf, Ran}
+use Rattle.steps.specs.Call.{callOf, lends, lendsTwo, hasMarks}
+use Rattle.replay.specs.Tape.{known, fits, decode, outsOf, outs2Of, answersOf, Ran}
 use Rattle.multimap.specs.Map.{stateOf}
 use Rattle.multimap.specs.WellLinked.{WellLinked, linked}
-use Rattle.multimap.specs.declared.ListOrderedMultimap.{ListOrderedMultimap}
-use Rattle.ordered_multimap.proofs.Demand3.{demand-3}
+use Rattle.multimap.specs.Arrays.{Arrays}
+use Rattle.multimap.proofs.Demand3.{demand-3}
 use Rattle.replay.specs.Played.{Played}
 
 pub decode-short : (calls outs outs2 marks : List ℕ) (space : ℕ) → length calls < 6 → decode calls outs outs2 marks space ≡ []
@@ -52,8 +53,8 @@ pub record Fits (op n n2 n3 room room2 room3 space : ℕ) : Type 0 where
   pub n3-in : n3 ≤ room3
   pub space-in : 4 ≤ space
   pub no-slice : lends op ≡ false → n ≡ 0
-  pub no-second : eqb op 22 ≡ false → n2 ≡ 0
-  pub no-marks : eqb op 12 ≡ false → n3 ≡ 0
+  pub no-second : lendsTwo op ≡ false → n2 ≡ 0
+  pub no-marks : hasMarks op ≡ false → n3 ≡ 0
 
 and-left : (a b : Bool) → (a && b) ≡ true → a ≡ true
 and-left true b e = refl
@@ -82,8 +83,8 @@ fits-says op n n2 n3 room room2 room3 space e =
       n3-in = leb-true n3 room3 (and-left (leb n3 room3) _ g);
       space-in = leb-true 4 space (and-right (leb n3 room3) _ g);
       no-slice = or-else (lends op) n (and-left (lends op || eqb n 0) _ a);
-      no-second = or-else (eqb op 22) n2 (and-left (eqb op 22 || eqb n2 0) _ b);
-      no-marks = or-else (eqb op 12) n3 (and-right (eqb op 22 || eqb n2 0) _ b);
+      no-second = or-else (lendsTwo op) n2 (and-left (lendsTwo op || eqb n2 0) _ b);
+      no-marks = or-else (hasMarks op) n3 (and-right (lendsTwo op || eqb n2 0) _ b);
     }
 
 -- p in front of what L leaves of the rest
@@ -133,18 +134,18 @@ module _ {Map : Type 0} (M : Kind Map) where
       }
 
 -- from the empty linked map
-pub played : (calls outs outs2 marks ans outs′ outs2′ ans′ : List ℕ) (m m′ : ListOrderedMultimap) (n : ℕ) → Ran linked calls outs outs2 marks ans m outs′ outs2′ ans′ m′ n
+pub played : (calls outs outs2 marks ans outs′ outs2′ ans′ : List ℕ) (m m′ : Arrays) (n : ℕ) → Ran linked calls outs outs2 marks ans m outs′ outs2′ ans′ m′ n
     → WellLinked m → stateOf m ≡ empty → Played calls outs outs2 marks ans outs′ outs2′ ans′ m′ n
 played calls outs outs2 marks ans outs′ outs2′ ans′ m m′ n r l e =
     let cs = decode calls outs outs2 marks (length ans) in
-    let same : r .outcomes ≡ outcomes cs empty = demand-3 (r .trace) l e .obeys .outcomes in
+    let same : r .outcomes ≡ outcomes cs empty = demand-3 linked (λ m. m) (λ m h. h) (r .trace) l e .obeys .outcomes in
     let t : Trace linked cs m (outcomes cs empty) m′ = subst (λ (os : List Outcome). Trace linked cs m os m′) same (r .trace) in
     record {
       start = m;
       start-linked = l;
       start-empty = e;
       trace = t;
-      demand-3 = demand-3 t l e;
+      demand-3 = demand-3 linked (λ m. m) (λ m h. h) t l e;
       outs-are = r .outs-are ∙ ap (λ (os : List Outcome). over (outsOf os) outs) same;
       outs2-are = r .outs2-are ∙ ap (λ (os : List Outcome). over (outs2Of os) outs2) same;
       ans-are = r .ans-are ∙ ap (λ (os : List Outcome). over (answersOf os) ans) same;

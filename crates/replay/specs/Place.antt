@@ -3,12 +3,11 @@ use mathlib.Core.Path.{_≡_}
 use mathlib.Core.Bool.{Bool, true, false}
 use mathlib.Core.List.{List, []}
 use Prim.Native.Nat.{ℕ, _+_, _*_, _≤_, _<_}
-use lib.Dec.{eqb}
 use lib.ListN.{length, drop, getD}
-use Rattle.steps.specs.Call.{Call}
+use Rattle.steps.specs.Call.{Call, lends, lendsTwo}
 use Rattle.multimap.specs.WellLinked.{WellLinked, linked}
-use Rattle.multimap.specs.declared.ListOrderedMultimap.{ListOrderedMultimap}
-use Rattle.replay.specs.Tape.{lends, known, fits, decode, Reached}
+use Rattle.multimap.specs.Arrays.{Arrays}
+use Rattle.replay.specs.Tape.{known, fits, decode, Reached}
 use Rattle.replay.specs.declared.Head.{Head}
 use Rattle.replay.specs.declared.Place.{Place}
 
@@ -23,11 +22,11 @@ abbrev pub fitsHead : Head → ℕ → ℕ → ℕ → ℕ → Bool
 fitsHead h room room2 room3 space = fits (h .op) (h .n) (h .n2) (h .n3) room room2 room3 space
 
 -- A call that may be made: there is one of this number, and its slices are empty where it has none.
-pub record Ready (m : ListOrderedMultimap) (op : ℕ) (out out2 : List ℕ) : Type 0 where
+pub record Ready (m : Arrays) (op : ℕ) (out out2 : List ℕ) : Type 0 where
   pub linked : WellLinked m
   pub known : op < 24
   pub no-slice : lends op ≡ false → length out ≡ 0
-  pub no-second : eqb op 22 ≡ false → length out2 ≡ 0
+  pub no-second : lendsTwo op ≡ false → length out2 ≡ 0
 
 -- The same place, where the list does not go on.
 abbrev pub stopped : Place → Place
@@ -67,12 +66,12 @@ module _ (calls marks : List ℕ) where
   rest p outs outs2 ans = decode (drop (p .call) calls) (drop (p .out) outs) (drop (p .out2) outs2) (drop (p .mark) marks) (length (drop (p .answer) ans))
 
   -- A run that began with m₀ and these slices stands at p with m and those.
-  abbrev pub At : List ℕ → List ℕ → List ℕ → ListOrderedMultimap → Place → List ℕ → List ℕ → List ℕ → ListOrderedMultimap → Type 0
+  abbrev pub At : List ℕ → List ℕ → List ℕ → Arrays → Place → List ℕ → List ℕ → List ℕ → Arrays → Type 0
   At outs₀ outs2₀ ans₀ m₀ p outs outs2 ans m =
       Reached linked calls outs₀ outs2₀ marks ans₀ m₀ outs outs2 ans m (p .call) (p .out) (p .out2) (p .mark) (p .answer) (p .ran)
 
   -- From p to q: every run that stands at p stands at q now. Either a call was made, or the list does not go on.
-  pub record Advanced (p : Place) (outs outs2 ans : List ℕ) (m : ListOrderedMultimap) (q : Place) (outs′ outs2′ ans′ : List ℕ) (m′ : ListOrderedMultimap) : Type 0 where
-    pub keeps : (outs₀ outs2₀ ans₀ : List ℕ) (m₀ : ListOrderedMultimap) → At outs₀ outs2₀ ans₀ m₀ p outs outs2 ans m → At outs₀ outs2₀ ans₀ m₀ q outs′ outs2′ ans′ m′
+  pub record Advanced (p : Place) (outs outs2 ans : List ℕ) (m : Arrays) (q : Place) (outs′ outs2′ ans′ : List ℕ) (m′ : Arrays) : Type 0 where
+    pub keeps : (outs₀ outs2₀ ans₀ : List ℕ) (m₀ : Arrays) → At outs₀ outs2₀ ans₀ m₀ p outs outs2 ans m → At outs₀ outs2₀ ans₀ m₀ q outs′ outs2′ ans′ m′
     pub ended : q .more ≡ false → rest q outs′ outs2′ ans′ ≡ []
     pub onward : q .more ≡ true → p .call + 6 ≤ q .call

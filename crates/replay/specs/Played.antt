@@ -8,19 +8,19 @@ use Rattle.steps.specs.Step.{outcomes, over}
 use Rattle.steps.specs.Trace.{Trace}
 use Rattle.multimap.specs.Map.{stateOf}
 use Rattle.multimap.specs.WellLinked.{WellLinked, linked}
-use Rattle.multimap.specs.declared.ListOrderedMultimap.{ListOrderedMultimap}
-use Rattle.ordered_multimap.specs.Demand3.{Demand3}
+use Rattle.multimap.specs.Arrays.{Arrays}
+use Rattle.multimap.specs.Demand3.{Demand3}
 use Rattle.replay.specs.Tape.{decode, outsOf, outs2Of, answersOf}
 
 -- The calls that the slices hold when the run starts, `n` of them, were run one after the other on an empty map, each on the map that the one
 -- before gave back; m′ is the last. Demand 3 holds of them as a whole. The slices now hold what the steps, run from their own empty state, write and
 -- answer; what stands past that is kept.
-pub record Played (calls outs outs2 marks ans outs′ outs2′ ans′ : List ℕ) (m′ : ListOrderedMultimap) (n : ℕ) : Type 0 where
-  pub start : ListOrderedMultimap
+pub record Played (calls outs outs2 marks ans outs′ outs2′ ans′ : List ℕ) (m′ : Arrays) (n : ℕ) : Type 0 where
+  pub start : Arrays
   pub start-linked : WellLinked start
   pub start-empty : stateOf start ≡ empty
   pub trace : Trace linked (decode calls outs outs2 marks (length ans)) start (outcomes (decode calls outs outs2 marks (length ans)) empty) m′
-  pub demand-3 : Demand3 trace
+  pub demand-3 : Demand3 linked (λ m. m) trace
   pub outs-are : outs′ ≡ over (outsOf (outcomes (decode calls outs outs2 marks (length ans)) empty)) outs
   pub outs2-are : outs2′ ≡ over (outs2Of (outcomes (decode calls outs outs2 marks (length ans)) empty)) outs2
   pub ans-are : ans′ ≡ over (answersOf (outcomes (decode calls outs outs2 marks (length ans)) empty)) ans

@@ -1,5 +1,5 @@
 -- A list of calls held in slices, and what a run of it leaves in them, for any kind of map. Six numbers for each call: its number in callOf's
--- table, its arguments k and v, and the lengths of its out slice, its second out slice and its marks. The out slices, the second ones and the
+-- table (crate steps), its arguments k and v, and the lengths of its out slice, its second out slice and its marks. The out slices, the second ones and the
 -- marks stand one after the other, each kind in a slice of its own. An answer is four numbers.
 use mathlib.Core.Path.{_≡_}
 use mathlib.Core.Bool.{Bool, cond, _&&_, _||_}
@@ -7,51 +7,14 @@ use mathlib.Core.List.{List, [], _∷_, _++_}
 use Prim.Native.Nat.{ℕ, _+_, _*_, _-_, _≤_}
 use lib.Dec.{eqb, leb, ltb}
 use lib.ListN.{length, take, drop, getD}
-use Rattle.steps.specs.Lists.{any}
-use Rattle.steps.specs.Call.{Call, Outcome}
-use Rattle.steps.specs.Call.{append, insert, insert-all, remove, remove-all, entry, occupied-append, occupied-insert, occupied-remove-entry, vacant-insert, pop-front, pop-back, retain, pack-to, clear, get, get-all, entry-len, contains-key, keys, keys-len, values-len, iter, taken}
+use Rattle.steps.specs.Call.{Call, Outcome, callOf, lends, lendsTwo, hasMarks}
 use Rattle.steps.specs.Step.{over}
 use Rattle.steps.specs.Trace.{Kind, Trace}
 use Rattle.steps.specs.Coded.{coded}
 
--- The calls by number, from 0.
-abbrev pub callOf : ℕ → ℕ → ℕ → List ℕ → List ℕ → List ℕ → Call
-callOf op k v out out2 marks =
-    getD
-    (append k v
-    ∷ insert k v
-    ∷ insert-all k v out
-    ∷ remove k
-    ∷ remove-all k out
-    ∷ entry k
-    ∷ occupied-append k v
-    ∷ occupied-insert k v
-    ∷ occupied-remove-entry k
-    ∷ vacant-insert k v
-    ∷ pop-front
-    ∷ pop-back
-    ∷ retain marks
-    ∷ pack-to k v
-    ∷ clear
-    ∷ get k
-    ∷ get-all k out
-    ∷ entry-len k
-    ∷ contains-key k
-    ∷ keys out
-    ∷ keys-len
-    ∷ values-len
-    ∷ iter out out2
-    ∷ taken
-    ∷ [])
-    op taken
-
--- Has the call an out slice? Only iter has a second, and only retain has marks.
-abbrev pub lends : ℕ → Bool
-lends op = any (eqb op) (2 ∷ 4 ∷ 16 ∷ 19 ∷ 22 ∷ [])
-
 -- Is there such a call, with slices and marks only where it has them?
 abbrev pub known : ℕ → ℕ → ℕ → ℕ → Bool
-known op n n2 n3 = ltb op 24 && ((lends op || eqb n 0) && ((eqb op 22 || eqb n2 0) && (eqb op 12 || eqb n3 0)))
+known op n n2 n3 = ltb op 24 && ((lends op || eqb n 0) && ((lendsTwo op || eqb n2 0) && (hasMarks op || eqb n3 0)))
 
 -- Are its slices and marks all there, and room for its answer?
 unfoldable pub fits : ℕ → ℕ → ℕ → ℕ → ℕ → ℕ → ℕ → ℕ → Bool

@@ -1,22 +1,59 @@
-// Runs the calls of a list held in slices, one after the other, on a map that starts empty.
-mod calls;
-
-use answers::Answer;
-use calls::Given;
-use multimap::ListOrderedMultimap;
+// Runs the calls of a list held in slices, one after the other, on one map in arrays of its own that starts empty.
+use multimap::Counts;
+use multimap::Index;
+use multimap::IndexLinks;
+use multimap::KeyIndex;
+use multimap::KeyLinks;
+use multimap::Keys;
+use multimap::Lengths;
+use multimap::ValueLinks;
+use multimap::Values;
 ghost use mathlib.Core.Path.{_≡_};
 ghost use mathlib.Core.Bool.{_&&_, _||_};
 ghost use Prim.Native.Nat.{_+_, _≤_};
 ghost use lib.ListN.{length};
-ghost use Rattle.steps.specs.Call.{lend};
-ghost use Rattle.steps.specs.Trace.{Does};
-ghost use Rattle.multimap.specs.WellLinked.{WellLinked, linked};
-ghost use Rattle.answers.specs.Answers.{answerOf};
-ghost use Rattle.steps.specs.Coded.{coded};
+ghost use Rattle.steps.specs.Call.{callOf, lends as lendsOf};
 ghost use Rattle.steps.specs.Told.{Told};
-ghost use Rattle.replay.specs.Tape.{callOf, lends as lendsOf, Ran};
+ghost use Rattle.multimap.specs.Arrays.{Arrays};
+ghost use Rattle.multimap.specs.Lent.{lent, left};
+ghost use Rattle.multimap.specs.WellLinked.{WellLinked, linked};
+ghost use Rattle.replay.specs.Tape.{Ran};
 ghost use Rattle.replay.specs.Place.{headAt, knownHead, fitsHead, Ready, stopped, Small, Past, Within, Advanced};
 ghost use Rattle.replay.specs.Played.{Played};
+
+// Runs the calls that the slices hold, on a map that starts empty. The out slices, and after each call its answer, are written to `outs`, `outs2` and
+// `answers`. A list that is cut off or holds what is no call is run up to there. The answer is how many calls were run.
+#[no_mangle]
+#[rattlefmt::skip]
+pub extern "C" fn replay(
+    calls: &[u64], outs: &mut [u64], outs2: &mut [u64], marks: &[u8], answers: &mut [u64],
+) -> u64
+    ensures { λ r. ⌜ ((m : Arrays) × Played (now (calls .entry)) (now (outs .entry)) (now (outs2 .entry)) (now (marks .entry)) (now (answers .entry))
+        (now (outs .exit)) (now (outs2 .exit)) (now (answers .exit)) m r) ⌝ }
+{
+    let mut keys = [0u64; 256];
+    let mut lengths = [0u16; 256];
+    let mut next_key = [0u16; 257];
+    let mut previous_key = [0u16; 257];
+    let mut values = [0u64; 1024];
+    let mut key_index = [0u16; 1024];
+    let mut next_value = [0u16; 1025];
+    let mut previous_value = [0u16; 1025];
+    let mut next_index = [0u16; 1280];
+    let mut previous_index = [0u16; 1280];
+    let mut index = [0u16; 512];
+    let mut members = [0u16; 3];
+    let mut rounds = [0u16; 3];
+    let mut taken = 0u32;
+    packing::om_new(
+        &mut keys, &mut lengths, &mut next_key, &mut previous_key, &mut values, &mut key_index, &mut next_value,
+        &mut previous_value, &mut next_index, &mut previous_index, &mut index, &mut members, &mut rounds, &mut taken,
+    );
+    run(
+        &mut keys, &mut lengths, &mut next_key, &mut previous_key, &mut values, &mut key_index, &mut next_value,
+        &mut previous_value, &mut next_index, &mut previous_index, &mut index, &mut members, &mut rounds, &mut taken, calls, outs, outs2, marks, answers,
+    )
+}
 
 // The six numbers of a call: which it is, its arguments, and the lengths of its out slice, its second one and its marks.
 struct Head {
@@ -37,17 +74,6 @@ struct Place {
     answer: usize,
     ran: u64,
     more: bool,
-}
-
-struct Moved {
-    map: ListOrderedMultimap,
-    place: Place,
-}
-
-pub struct Replayed {
-    pub map: ListOrderedMultimap,
-    // How many calls were run.
-    pub ran: u64,
 }
 
 fn read_head(calls: &[u64], i: usize) -> Head
@@ -136,95 +162,45 @@ fn after(p: Place, h: Head) -> Place
     }
 }
 
-// One call.
-fn tick(
-    m: ListOrderedMultimap,
-    op: u64,
-    k: u64,
-    v: u64,
-    out: &mut [u64],
-    out2: &mut [u64],
-    marks: &[u8],
-) -> Given
-    requires { ⌜ Ready m op (now out) (now out2) ⌝ }
-    ensures { λ r. ⌜ Does linked (callOf op k v (now (out .entry)) (now (out2 .entry)) (now (marks .entry))) m
-        (record { answer = answerOf (r .answer); slices = lend (now (out .exit)) (now (out2 .exit)) }) (r .map) ⌝ }
+// Runs all calls, one after the other, until the list does not go on.
+#[rattlefmt::skip]
+fn run(
+    keys: &mut Keys, lengths: &mut Lengths, next_key: &mut KeyLinks, previous_key: &mut KeyLinks,
+    values: &mut Values, key_index: &mut KeyIndex, next_value: &mut ValueLinks, previous_value: &mut ValueLinks,
+    next_index: &mut IndexLinks, previous_index: &mut IndexLinks, index: &mut Index,
+    members: &mut Counts, rounds: &mut Counts, taken: &mut u32,
+    calls: &[u64], outs: &mut [u64], outs2: &mut [u64], marks: &[u8], answers: &mut [u64],
+) -> u64
+    ghost { Arrays }
+    requires { λ α. ⌜ lent keys lengths «next_key» «previous_key» values «key_index» «next_value» «previous_value» «next_index» «previous_index» index members rounds taken ≡ α ⌝ }
+    requires { λ α. ⌜ WellLinked α ⌝ }
+    ensures { λ α r. ⌜ Ran linked (now (calls .entry)) (now (outs .entry)) (now (outs2 .entry)) (now (marks .entry)) (now (answers .entry)) α
+        (now (outs .exit)) (now (outs2 .exit)) (now (answers .exit)) (left keys lengths «next_key» «previous_key» values «key_index» «next_value» «previous_value» «next_index» «previous_index» index members rounds taken) r ⌝ }
 {
-    match op {
-        0 => calls::append(m, k, v),
-        1 => calls::insert(m, k, v),
-        2 => calls::insert_all(m, k, v, out),
-        3 => calls::remove(m, k),
-        4 => calls::remove_all(m, k, out),
-        5 => calls::entry(m, k),
-        6 => calls::occupied_append(m, k, v),
-        7 => calls::occupied_insert(m, k, v),
-        8 => calls::occupied_remove_entry(m, k),
-        9 => calls::vacant_insert(m, k, v),
-        10 => calls::pop_front(m),
-        11 => calls::pop_back(m),
-        12 => calls::retain(m, marks),
-        13 => calls::pack_to(m, k, v),
-        14 => calls::clear(m),
-        15 => calls::get(m, k),
-        16 => calls::get_all(m, k, out),
-        17 => calls::entry_len(m, k),
-        18 => calls::contains_key(m, k),
-        19 => calls::keys(m, out),
-        20 => calls::keys_len(m),
-        21 => calls::values_len(m),
-        22 => calls::iter(m, out, out2),
-        _ => calls::taken(m),
+    let mut p = Place { call: 0, out: 0, out2: 0, mark: 0, answer: 0, ran: 0, more: true };
+    while p.more {
+        p = advance(
+            keys, lengths, next_key, previous_key, values, key_index, next_value, previous_value,
+            next_index, previous_index, index, members, rounds, taken, p, calls, outs, outs2, marks, answers,
+        );
     }
+    p.ran
 }
 
-// The four numbers of an answer, into a slice of four.
-fn code(a: Answer, ans: &mut [u64])
-    requires { ⌜ length (now ans) ≡ 4 ⌝ }
-    ensures { λ _. ⌜ now (ans .exit) ≡ coded (answerOf a) ⌝ }
-{
-    let numbers = answers::numbers(a);
-    ans[0] = numbers[0];
-    ans[1] = numbers[1];
-    ans[2] = numbers[2];
-    ans[3] = numbers[3];
-}
-
-// The same, with its answer's numbers in a slice of four.
-fn turn(
-    m: ListOrderedMultimap,
-    h: Head,
-    out: &mut [u64],
-    out2: &mut [u64],
-    marks: &[u8],
-    ans: &mut [u64],
-) -> ListOrderedMultimap
-    requires { ⌜ Ready m (h .op) (now out) (now out2) × (length (now ans) ≡ 4) ⌝ }
-    ensures { λ r. ⌜ Told linked (callOf (h .op) (h .k) (h .v) (now (out .entry)) (now (out2 .entry)) (now (marks .entry))) m r
-        (now (out .exit)) (now (out2 .exit)) (now (ans .exit)) ⌝ }
-{
-    let op = h.op;
-    let k = h.k;
-    let v = h.v;
-    let given = tick(m, op, k, v, out, out2, marks);
-    let answer = given.answer;
-    code(answer, ans);
-    given.map
-}
-
-// The next call, where the list goes on with one.
+// Makes the next call, where the list goes on with one.
+#[rattlefmt::skip]
 fn advance(
-    m: ListOrderedMultimap,
-    p: Place,
-    calls: &[u64],
-    outs: &mut [u64],
-    outs2: &mut [u64],
-    marks: &[u8],
-    answers: &mut [u64],
-) -> Moved
-    requires { ⌜ WellLinked m × Within p (now calls) (now outs) (now outs2) (now marks) (now answers) ⌝ }
-    ensures { λ r. ⌜ Advanced (now (calls .entry)) (now (marks .entry)) p (now (outs .entry)) (now (outs2 .entry)) (now (answers .entry)) m
-        (r .place) (now (outs .exit)) (now (outs2 .exit)) (now (answers .exit)) (r .map) ⌝ }
+    keys: &mut Keys, lengths: &mut Lengths, next_key: &mut KeyLinks, previous_key: &mut KeyLinks,
+    values: &mut Values, key_index: &mut KeyIndex, next_value: &mut ValueLinks, previous_value: &mut ValueLinks,
+    next_index: &mut IndexLinks, previous_index: &mut IndexLinks, index: &mut Index,
+    members: &mut Counts, rounds: &mut Counts, taken: &mut u32,
+    p: Place, calls: &[u64], outs: &mut [u64], outs2: &mut [u64], marks: &[u8], answers: &mut [u64],
+) -> Place
+    ghost { Arrays }
+    requires { λ α. ⌜ lent keys lengths «next_key» «previous_key» values «key_index» «next_value» «previous_value» «next_index» «previous_index» index members rounds taken ≡ α ⌝ }
+    requires { λ α. ⌜ WellLinked α × Within p (now calls) (now outs) (now outs2) (now marks) (now answers) ⌝ }
+    ensures { λ α r. ⌜ Advanced (now (calls .entry)) (now (marks .entry)) p (now (outs .entry)) (now (outs2 .entry)) (now (answers .entry)) α
+        r (now (outs .exit)) (now (outs2 .exit)) (now (answers .exit)) (left keys lengths «next_key» «previous_key» values «key_index» «next_value» «previous_value» «next_index» «previous_index» index members rounds taken) ⌝ }
 {
     let i = p.call;
     let at = p.out;
@@ -232,90 +208,61 @@ fn advance(
     let at3 = p.mark;
     let a = p.answer;
     if calls.len() - i < 6 {
-        return Moved {
-            map: m,
-            place: stop(p),
-        };
+        return stop(p);
     }
     let h = read_head(calls, i);
     let room = (outs.len() - at) as u64;
     let room2 = (outs2.len() - at2) as u64;
     let room3 = (marks.len() - at3) as u64;
     let space = (answers.len() - a) as u64;
-    if fits(h, room, room2, room3, space) {
-        let q = after(p, h);
-        let e = q.out;
-        let e2 = q.out2;
-        let e3 = q.mark;
-        let b = q.answer;
-        let turned = turn(
-            m,
-            h,
-            &mut outs[at..e],
-            &mut outs2[at2..e2],
-            &marks[at3..e3],
-            &mut answers[a..b],
-        );
-        Moved {
-            map: turned,
-            place: q,
-        }
-    } else {
-        Moved {
-            map: m,
-            place: stop(p),
-        }
+    if !fits(h, room, room2, room3, space) {
+        return stop(p);
     }
+    let q = after(p, h);
+    let e = q.out;
+    let e2 = q.out2;
+    let e3 = q.mark;
+    let b = q.answer;
+    turn(
+        keys, lengths, next_key, previous_key, values, key_index, next_value, previous_value,
+        next_index, previous_index, index, members, rounds, taken, h, &mut outs[at..e], &mut outs2[at2..e2], &marks[at3..e3], &mut answers[a..b],
+    );
+    q
 }
 
-// All calls, one after the other, until the list does not go on.
-fn run(
-    m: ListOrderedMultimap,
-    calls: &[u64],
-    outs: &mut [u64],
-    outs2: &mut [u64],
-    marks: &[u8],
-    answers: &mut [u64],
-) -> Replayed
-    requires { ⌜ WellLinked m ⌝ }
-    ensures { λ r. ⌜ Ran linked (now (calls .entry)) (now (outs .entry)) (now (outs2 .entry)) (now (marks .entry)) (now (answers .entry)) m
-        (now (outs .exit)) (now (outs2 .exit)) (now (answers .exit)) (r .map) (r .ran) ⌝ }
+// Makes one call, with its answer's numbers in a slice of four.
+#[rattlefmt::skip]
+fn turn(
+    keys: &mut Keys, lengths: &mut Lengths, next_key: &mut KeyLinks, previous_key: &mut KeyLinks,
+    values: &mut Values, key_index: &mut KeyIndex, next_value: &mut ValueLinks, previous_value: &mut ValueLinks,
+    next_index: &mut IndexLinks, previous_index: &mut IndexLinks, index: &mut Index,
+    members: &mut Counts, rounds: &mut Counts, taken: &mut u32,
+    h: Head, out: &mut [u64], out2: &mut [u64], marks: &[u8], ans: &mut [u64],
+)
+    ghost { Arrays }
+    requires { λ α. ⌜ lent keys lengths «next_key» «previous_key» values «key_index» «next_value» «previous_value» «next_index» «previous_index» index members rounds taken ≡ α ⌝ }
+    requires { λ α. ⌜ Ready α (h .op) (now out) (now out2) × (length (now ans) ≡ 4) ⌝ }
+    ensures { λ α _. ⌜ Told linked (callOf (h .op) (h .k) (h .v) (now (out .entry)) (now (out2 .entry)) (now (marks .entry))) α (left keys lengths «next_key» «previous_key» values «key_index» «next_value» «previous_value» «next_index» «previous_index» index members rounds taken)
+        (now (out .exit)) (now (out2 .exit)) (now (ans .exit)) ⌝ }
 {
-    let mut held = m;
-    let mut p = Place {
-        call: 0,
-        out: 0,
-        out2: 0,
-        mark: 0,
-        answer: 0,
-        ran: 0,
-        more: true,
-    };
-    while p.more {
-        let moved = advance(held, p, calls, outs, outs2, marks, answers);
-        let map = moved.map;
-        let place = moved.place;
-        held = map;
-        p = place;
-    }
-    Replayed {
-        map: held,
-        ran: p.ran,
-    }
+    let mut told = [0u64; 4];
+    let op = h.op;
+    let k = h.k;
+    let v = h.v;
+    turn::om_call(
+        keys, lengths, next_key, previous_key, values, key_index, next_value, previous_value,
+        next_index, previous_index, index, members, rounds, taken, op, k, v, out, out2, marks, &mut told,
+    );
+    store(told, ans);
 }
 
-// The calls that the slices hold, on a map that starts empty. The out slices, and after each call its answer, are written to `outs`, `outs2` and
-// `answers`. A list that is cut off or holds what is no call is run up to there.
-pub fn replay(
-    calls: &[u64],
-    outs: &mut [u64],
-    outs2: &mut [u64],
-    marks: &[u8],
-    answers: &mut [u64],
-) -> Replayed
-    ensures { λ r. ⌜ Played (now (calls .entry)) (now (outs .entry)) (now (outs2 .entry)) (now (marks .entry)) (now (answers .entry))
-        (now (outs .exit)) (now (outs2 .exit)) (now (answers .exit)) (r .map) (r .ran) ⌝ }
+// Stores four numbers in a slice of four.
+fn store(numbers: [u64; 4], ans: &mut [u64])
+    requires { ⌜ length (now ans) ≡ 4 ⌝ }
+    ensures { λ _. ⌜ now (ans .exit) ≡ numbers ⌝ }
 {
-    let m = multimap::new();
-    run(m, calls, outs, outs2, marks, answers)
+    ans[0] = numbers[0];
+    ans[1] = numbers[1];
+    ans[2] = numbers[2];
+    ans[3] = numbers[3];
 }

@@ -8,7 +8,7 @@ use mathlib.Core.Bool.{Bool, true, false}
 use lib.Dec.{leb}
 use lib.ListN.{length, take, drop, length-take, length-drop, drop-of-length-le}
 use lib.Seq.{drop-drop, take-all}
-use Rattle.multimap.specs.declared.ListOrderedMultimap.{ListOrderedMultimap}
+use Rattle.multimap.specs.Arrays.{Arrays}
 use Rattle.replay.specs.Played.{Played}
 use Rattle.parsing.specs.Split.{gap, Held}
 use Rattle.tapes.specs.Parts.{partOf, restOf}
@@ -18,7 +18,7 @@ use Rattle.tapes.proofs.Holds.{held-none, held-join, Coming, come-all, 
 use Rattle.tapes.proofs.Numbers.{gap-within}
 
 -- what `replay` leaves is what is printed of the run
-pub played-left : {calls outs outs2 marks ans outs′ outs2′ ans′ : List ℕ} {m : ListOrderedMultimap} {n : ℕ}
+pub played-left : {calls outs outs2 marks ans outs′ outs2′ ans′ : List ℕ} {m : Arrays} {n : ℕ}
     → Played calls outs outs2 marks ans outs′ outs2′ ans′ m n → leftText n ans′ outs′ outs2′ ≡ runText calls outs outs2 marks ans
 played-left p = cc
 

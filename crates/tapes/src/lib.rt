@@ -53,8 +53,7 @@ fn print_run(
     ensures { λ r. ⌜ Held (runText (now (calls .entry)) (now (outs .entry)) (now (outs2 .entry)) (now (marks .entry)) (now (answers .entry)))
         (now (out .entry)) at (now (out .exit)) r ⌝ }
 {
-    let played = replay::replay(calls, outs, outs2, marks, answers);
-    let ran = played.ran;
+    let ran = replay::replay(calls, outs, outs2, marks, answers);
     print_left(ran, answers, outs, outs2, out, at)
 }
 

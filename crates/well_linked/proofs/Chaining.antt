@@ -11,26 +11,23 @@ use lib.Dec.{eqb}
 use lib.ListN.{length, getD, set, length-set}
 use lib.Seq.{getD-set-same, getD-set-other}
 use Rattle.links.specs.Path.{count, Path}
-use Rattle.links.specs.Links.{Links, recordOf}
+use Rattle.links.specs.Links.{recordOf}
 use Rattle.links.proofs.Paths.{same-or-not, count-same, count-other, length-keep}
 use Rattle.index.proofs.Agree.{true-false}
-use Rattle.multimap.specs.Map.{at}
-use Rattle.well_linked.specs.Chains.{Begun, Chains, Followed, Walked}
+use Rattle.links.specs.Stores.{at}
+use Rattle.well_linked.specs.Chains.{Used, From, Closed, Begun, Chains, Followed, Walked}
 
 -- the two answers
-pub walked : {c : Links} {used : List Bool} {tail many : List ℕ} → Followed c used tail many → Walked c used tail many true
-walked f = record { yes = λ e. f; no = λ e. absurd (true-false refl e) }
+module _ {key next prev : ℕ → ℕ} {all : List ℕ} {used : List Bool} {tail many : List ℕ} where
+  pub walked : Followed key next prev all used tail many → Walked key next prev all used tail many true
+  walked f = record { yes = λ e. f; no = λ e. absurd (true-false refl e) }
 
-pub refused : {c : Links} {used : List Bool} {tail many : List ℕ} → (Chains c used → ⊥) → Walked c used tail many false
-refused f = record { yes = λ e. absurd (true-false e refl); no = λ e. f }
-
--- from the cell a the rounds of the member place k among xs are met, and then k's base
-abbrev pub From : (ℕ → ℕ) → (ℕ → ℕ) → (ℕ → ℕ) → List ℕ → ℕ → ℕ → Type 0
-From key next prev xs a k = Path next prev a (recordOf key k xs) (1024 + k)
+  pub refused : (Chains key next prev all used → ⊥) → Walked key next prev all used tail many false
+  refused f = record { yes = λ e. absurd (true-false e refl); no = λ e. f }
 
 -- the rounds `all` and those still to come, with the last cell of each chain and its number of rounds so far
 pub record Chaining (key next prev : ℕ → ℕ) (all : List ℕ) (used : List Bool) (tail many rest : List ℕ) : Type 0 where
-  pub keys : (q : ℕ) → 0 < count q all → (getD used (key q) false ≡ true) ⊎ (0 < count q rest)
+  pub keys : (q : ℕ) → 0 < count q all → Used used (key q) ⊎ (0 < count q rest)
   pub part : (q : ℕ) → 0 < count q rest → 0 < count q all
   pub to : (k : ℕ) → k < 256 → From key next prev all (1024 + k) k → From key next prev rest (at tail k) k
   pub of : (k : ℕ) → k < 256 → From key next prev rest (at tail k) k → From key next prev all (1024 + k) k
@@ -39,7 +36,8 @@ pub record Chaining (key next prev : ℕ → ℕ) (all : List ℕ) (used : List 
   pub long-tail : length tail ≡ 256
   pub long-many : length many ≡ 256
 
-pub chaining-none : (key next prev : ℕ → ℕ) (all : List ℕ) (used : List Bool) (tail many : List ℕ) → Begun tail many → Chaining key next prev all used tail many all
+pub chaining-none : (key next prev : ℕ → ℕ) (all : List ℕ) (used : List Bool) (tail many : List ℕ) → Begun tail many
+    → Chaining key next prev all used tail many all
 chaining-none key next prev all used tail many b =
     record {
       keys = λ q h. inr h;
@@ -52,23 +50,27 @@ chaining-none key next prev all used tail many b =
       long-many = b .long-many;
     }
 
-module _ {key next prev : ℕ → ℕ} {all : List ℕ} {used : List Bool} {tail many rest : List ℕ} (c : Chaining key next prev all used tail many rest) where
+module _ {key next prev : ℕ → ℕ} {all : List ℕ} {used : List Bool} {tail many rest : List ℕ}
+    (c : Chaining key next prev all used tail many rest) where
   -- no round is still to come
   module _ (e : rest ≡ []) where
     none : (k : ℕ) → recordOf key k rest ≡ []
     none k = ap (recordOf key k) e
 
-    pub all-used : (q : ℕ) → 0 < count q all → getD used (key q) false ≡ true
+    all-used : (q : ℕ) → 0 < count q all → Used used (key q)
     all-used q h = ⊎-elim (λ u. u) (λ (i : 0 < count q rest). absurd (omega (arith, ap (count q) e))) (c .keys q h)
 
-    pub closed : (k : ℕ) → k < 256 → From key next prev all (1024 + k) k → Path next prev (at tail k) [] (1024 + k)
+    closed : (k : ℕ) → k < 256 → From key next prev all (1024 + k) k → Closed next prev (at tail k) k
     closed k l w = subst (λ (xs : List ℕ). Path next prev (at tail k) xs (1024 + k)) (none k) (c .to k l w)
 
-    pub chained : (k : ℕ) → k < 256 → Path next prev (at tail k) [] (1024 + k) → From key next prev all (1024 + k) k
+    chained : (k : ℕ) → k < 256 → Closed next prev (at tail k) k → From key next prev all (1024 + k) k
     chained k l w = c .of k l (subst (λ (xs : List ℕ). Path next prev (at tail k) xs (1024 + k)) (sym (none k)) w)
 
-    pub all-counted : (k : ℕ) → k < 256 → at many k ≡ length (recordOf key k all)
+    all-counted : (k : ℕ) → k < 256 → at many k ≡ length (recordOf key k all)
     all-counted k l = omega (arith, c .counted k l, ap length (none k))
+
+    pub followed : Followed key next prev all used tail many
+    followed = record { keys = all-used; to = closed; of = chained; counted = all-counted; fits = c .fits }
 
   -- x is the next round
   module _ {x : ℕ} {xs : List ℕ} (e : rest ≡ x ∷ xs) where
@@ -90,10 +92,17 @@ module _ {key next prev : ℕ → ℕ} {all : List ℕ} {used : List Bool} {tail
     pub room : key x < 256 → at many (key x) < length all
     room l = omega (arith, c .counted (key x) l, ap length own, length-keep (λ q. eqb (key q) (key x)) all)
 
-    module _ (l : key x < 256) (u : getD used (key x) false ≡ true) (n : next (at tail (key x)) ≡ x) (p : prev x ≡ at tail (key x)) (f : x < 1280) where
+    module _ (l : key x < 256) (u : Used used (key x)) (n : next (at tail (key x)) ≡ x) (p : prev x ≡ at tail (key x)) (f : x < 1280) where
       -- the last cells with x
       abbrev tail′ : List ℕ
       tail′ = set tail (key x) x
+
+      -- and the numbers of rounds
+      abbrev more : ℕ
+      more = at many (key x) + 1
+
+      abbrev many′ : List ℕ
+      many′ = set many (key x) more
 
       here : at tail′ (key x) ≡ x
       here = getD-set-same tail (key x) x 0 (omega (arith, c .long-tail))
@@ -113,28 +122,33 @@ module _ {key next prev : ℕ → ℕ} {all : List ℕ} {used : List Bool} {tail
       of-other : (j : ℕ) → j ≢ key x → j < 256 → From key next prev xs (at tail′ j) j → From key next prev all (1024 + j) j
       of-other j i h w = c .of j h (rw (other j (λ e. i (sym e))) (rw (there j i) at w))
 
+      met-or-left : (q : ℕ) → 0 < count q rest → Used used (key q) ⊎ (0 < count q xs)
+      met-or-left q i =
+          ⊎-elim (λ (j : q ≡ x). inl (ap (λ (y : ℕ). getD used (key y) false) j ∙ u))
+          (λ (j : q ≢ x). inr (omega (arith, ap (count q) e, count-other q x xs j))) (same-or-not q x)
+
       pub chaining-one : Chaining key next prev all used (set tail (key x) x) (set many (key x) (at many (key x) + 1)) xs
       chaining-one =
           record {
-            keys = λ q h. ⊎-elim (λ v. inl v)
-                (λ (i : 0 < count q rest).
-                ⊎-elim (λ (j : q ≡ x). inl (ap (λ (y : ℕ). getD used (key y) false) j ∙ u)) (λ (j : q ≢ x). inr (omega (arith, ap (count q) e, count-other q x xs j))) (same-or-not q x))
-                (c .keys q h);
+            keys = λ q h. ⊎-elim (λ v. inl v) (λ (i : 0 < count q rest). met-or-left q i) (c .keys q h);
             part = λ q h. c .part q (rw e (omega arith));
             to = λ j h. ⊎-elim
-                (λ (i : j ≡ key x). subst (λ (y : ℕ). From key next prev all (1024 + y) y → From key next prev xs (at tail′ y) y) (sym i) to-own)
+                (λ (i : j ≡ key x). subst (λ (y : ℕ). From key next prev all (1024 + y) y → From key next prev xs (at tail′ y) y) (sym i)
+                to-own)
                 (λ (i : j ≢ key x). to-other j i h) (same-or-not j (key x));
             of = λ j h. ⊎-elim
-                (λ (i : j ≡ key x). subst (λ (y : ℕ). From key next prev xs (at tail′ y) y → From key next prev all (1024 + y) y) (sym i) of-own)
+                (λ (i : j ≡ key x). subst (λ (y : ℕ). From key next prev xs (at tail′ y) y → From key next prev all (1024 + y) y) (sym i)
+                of-own)
                 (λ (i : j ≢ key x). of-other j i h) (same-or-not j (key x));
             counted = λ j h. ⊎-elim
                 (λ (i : j ≡ key x).
-                subst (λ (y : ℕ). at (set many (key x) (at many (key x) + 1)) y + length (recordOf key y xs) ≡ length (recordOf key y all)) (sym i)
-                (omega (arith, getD-set-same many (key x) (at many (key x) + 1) 0 (omega (arith, c .long-many)), c .counted (key x) l, ap length own)))
-                (λ (i : j ≢ key x). omega (arith, getD-set-other many (key x) j (at many (key x) + 1) 0 i, c .counted j h, ap length (other j (λ f. i (sym f))))) (same-or-not j (key x));
+                subst (λ (y : ℕ). at many′ y + length (recordOf key y xs) ≡ length (recordOf key y all)) (sym i)
+                (omega (arith, getD-set-same many (key x) more 0 (omega (arith, c .long-many)), c .counted (key x) l, ap length own)))
+                (λ (i : j ≢ key x). omega (arith, getD-set-other many (key x) j more 0 i, c .counted j h, ap length (other j (λ f. i (sym f)))))
+                (same-or-not j (key x));
             fits = λ j h. ⊎-elim
                 (λ (i : j ≡ key x). omega (arith, here, ap (at tail′) i, f))
                 (λ (i : j ≢ key x). omega (arith, there j i, c .fits j h)) (same-or-not j (key x));
             long-tail = length-set tail (key x) x ∙ c .long-tail;
-            long-many = length-set many (key x) (at many (key x) + 1) ∙ c .long-many;
+            long-many = length-set many (key x) more ∙ c .long-many;
           }

@@ -48,12 +48,17 @@ filled f xs o b e q = ⊎-elim (λ (h : q < f). rw (lt-ltb q f h) (inside h)) (�
         omega (
           arith,
           few f (q ∷ xs)
-              (λ y. ⊎-elim (λ (i : y ≡ q). rw (count-hit y q xs i) (omega (arith, z, ap (λ (j : ℕ). count j xs) i))) (λ (i : y ≢ q). rw (count-other y q xs i) (o y)) (same-or-not y q))
+              (λ y. ⊎-elim (λ (i : y ≡ q). rw (count-hit y q xs i) (omega (arith, z, ap (λ (j : ℕ). count j xs) i)))
+              (λ (i : y ≢ q). rw (count-other y q xs i) (o y)) (same-or-not y q))
               (λ y k. ⊎-elim (λ (i : y ≡ q). omega arith) (λ (i : y ≢ q). b y (omega (arith, count-other y q xs i))) (same-or-not y q)),
         )
 
     inside : q < f → count q xs ≡ 1
-    inside h = ⊎-elim (λ (z : count q xs < 1). absurd (missing (omega arith) h)) (λ (z : 1 ≤ count q xs). omega (arith, o q)) (less-or-not (count q xs) 1)
+    inside h =
+        ⊎-elim (λ (z : count q xs < 1). absurd (missing (omega arith) h))
+        (λ (z : 1 ≤ count q xs). omega (arith, o q)) (less-or-not (count q xs) 1)
 
     outside : f ≤ q → count q xs ≡ 0
-    outside h = ⊎-elim (λ (z : count q xs < 1). omega arith) (λ (z : 1 ≤ count q xs). absurd (omega (arith, b q (omega arith)))) (less-or-not (count q xs) 1)
+    outside h =
+        ⊎-elim (λ (z : count q xs < 1). omega arith)
+        (λ (z : 1 ≤ count q xs). absurd (omega (arith, b q (omega arith)))) (less-or-not (count q xs) 1)

@@ -1,5 +1,5 @@
 -- Laws that belong to no one function.
-pub mod Numbers
+pub mod Repeats
 pub mod Marking
 pub mod Ways
 pub mod Fill

@@ -1,22 +1,19 @@
 -- A list of places is linked exactly if its places in use are new, its freed ones are new besides, and it is a path. Assumes nothing.
 use Prim.Native.Nat.{ℕ, _+_, _-_, _≤_, _<_}
-use mathlib.Core.Path.{_≡_, refl, sym, ap, _∙_, subst}
+use mathlib.Core.Path.{_≡_, refl, sym, ap, _∙_}
 use mathlib.Core.Logic.{⊎-elim}
 use mathlib.Core.Bool.{Bool, true, false}
 use mathlib.Core.List.{List, _++_}
 use native.Mathlib.Omega.{arith}
 use lib.ListN.{length, replicate, length-append}
-use Rattle.index.specs.Agree.{Decides}
 use Rattle.index.proofs.Pigeon.{less-or-not}
 use Rattle.index.proofs.Agree.{if-true, if-false}
 use Rattle.links.specs.Path.{one, count, Path}
 use Rattle.links.specs.Places.{Places, order, freed, Linked}
 use Rattle.links.proofs.Paths.{count-append}
 use Rattle.links.proofs.Lists.{length-walk, length-order, place-below, place-once}
-use Rattle.multimap.specs.Map.{at}
-use Rattle.multimap.proofs.Stores.{places-eq}
-use Rattle.well_linked.specs.Marks.{marks, listOf, New, Marks}
-use Rattle.well_linked.proofs.Numbers.{repeated}
+use Rattle.well_linked.specs.Marks.{marks, New, Marks}
+use Rattle.well_linked.proofs.Repeats.{repeated}
 use Rattle.well_linked.proofs.Fill.{filled}
 
 -- nothing is marked in an array of `false`
@@ -60,19 +57,14 @@ module _ (l : Places) (n : ℕ) {met : List Bool} {r : Bool} (m : Marks (l .fres
             once =
                 λ q. sym (both q)
                 ∙ filled (l .fresh) (order l ++ freed l) (λ y. omega (arith, both y, marked y, freed-new .once y))
-                (λ y h. ⊎-elim (λ (j : count y (order l) < 1). freed-new .below y (omega (arith, both y))) (λ (j : 1 ≤ count y (order l)). used-below y (omega arith)) (less-or-not (count y (order l)) 1))
-                long q;
+                (λ y h. ⊎-elim (λ (j : count y (order l) < 1). freed-new .below y (omega (arith, both y)))
+                (λ (j : 1 ≤ count y (order l)). used-below y (omega arith)) (less-or-not (count y (order l)) 1)) long q;
             some-used = u;
             some-fresh = f;
           }
 
 -- where the list is linked, exactly the places in use are marked
-pub marked-so : (l : Places) (n : ℕ) {met : List Bool} (r : Bool) → Marks (l .fresh) (order l) (replicate n false) met r → Linked l → (q : ℕ) → marks met q ≡ count q (order l)
+pub marked-so : (l : Places) (n : ℕ) {met : List Bool} (r : Bool) → Marks (l .fresh) (order l) (replicate n false) met r → Linked l
+    → (q : ℕ) → marks met q ≡ count q (order l)
 marked-so l n true m g q = marked l n m refl q
 marked-so l n false m g q = absurd (used-refused l n m refl g)
-
--- a list whose links are copied into arrays of numbers
-pub of-numbers : (next prev : List ℕ) (l : Places) → at next ≡ l .next → at prev ≡ l .prev
-    → (r : Bool) → Decides r (Linked (listOf next prev (l .root) (l .len) (l .fresh) (l .free))) → Decides r (Linked l)
-of-numbers next prev l n p r d =
-    subst (λ (k : Places). Decides r (Linked k)) (places-eq (listOf next prev (l .root) (l .len) (l .fresh) (l .free)) l n p refl refl refl refl) d

@@ -50,8 +50,10 @@ module _ {f : ℕ} {all : List ℕ} {met₀ met : List Bool} {rest : List ℕ} (
     marking-one l h u =
         record {
           tally =
-              λ q. ⊎-elim (λ (i : q ≡ x). omega (arith, m .tally q, ap (count q) e, count-hit q x xs i, ap one (marked-here q i), ap one (free-here q i)))
-              (λ (i : q ≢ x). omega (arith, m .tally q, ap (count q) e, count-other q x xs i, ap one (getD-set-other met x q true false i))) (same-or-not q x);
+              λ q. ⊎-elim
+              (λ (i : q ≡ x). omega (arith, m .tally q, ap (count q) e, count-hit q x xs i, ap one (marked-here q i), ap one (free-here q i)))
+              (λ (i : q ≢ x). omega (arith, m .tally q, ap (count q) e, count-other q x xs i, ap one (getD-set-other met x q true false i)))
+              (same-or-not q x);
           far = λ q i. sym (ap (count q) e ∙ count-other q x xs (λ j. omega (arith, j))) ∙ m .far q i;
           long = length-set met x true ∙ m .long;
         }
@@ -67,7 +69,14 @@ module _ {f : ℕ} {all : List ℕ} {met₀ met : List Bool} {rest : List ℕ} (
 
     pub marking-far : (met′ : List Bool) → f ≤ x → Marks f all met₀ met′ false
     marking-far met′ h =
-        record { decided = λ w. omega (arith, w .below x (omega (arith, m .far x h, ap (count x) e, count-same x xs))); marked = λ r. refuse r }
+        record {
+          decided = λ w. omega (arith, w .below x (omega (arith, m .far x h, ap (count x) e, count-same x xs)));
+          marked = λ r. refuse r;
+        }
 
     pub marking-seen : (met′ : List Bool) → getD met x false ≡ true → Marks f all met₀ met′ false
-    marking-seen met′ u = record { decided = λ w. omega (arith, w .once x, m .tally x, ap (count x) e, count-same x xs, ap one u); marked = λ r. refuse r }
+    marking-seen met′ u =
+        record {
+          decided = λ w. omega (arith, w .once x, m .tally x, ap (count x) e, count-same x xs, ap one u);
+          marked = λ r. refuse r;
+        }

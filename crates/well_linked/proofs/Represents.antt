@@ -1,5 +1,5 @@
--- What module 6 of document 01 asks of P, K and T, of every well-linked map: K holds each member of P exactly once and no other, and all three
--- are within their limits. Assumes nothing.
+-- What module 6 of document 01 asks of P, K and T, of every well-linked map: K holds each member of P exactly once and no other, and all
+-- three are within their limits. Assumes nothing.
 use Prim.Native.Nat.{ℕ}
 use mathlib.Core.Path.{_≡_, refl, sym, ap, subst, _∙_}
 use mathlib.Core.Logic.{_≢_, ⊎-elim}
@@ -23,7 +23,7 @@ use Rattle.index.specs.declared.Found.the-variants.{At, Absent}
 use Rattle.index.specs.Search.{search}
 use Rattle.multimap.specs.Map.{at, pairs, members, membersOf, stateOf}
 use Rattle.multimap.specs.WellLinked.{WellLinked}
-use Rattle.multimap.specs.declared.ListOrderedMultimap.{ListOrderedMultimap}
+use Rattle.multimap.specs.Arrays.{Arrays}
 use Rattle.multimap.proofs.Stores.{length-pairs, length-members}
 use Rattle.multimap.proofs.Records.{NoMember, Member, filter-map, same-number, found, not-found}
 
@@ -34,7 +34,7 @@ hits x (q ∷ qs) =
     ⊎-elim (λ (e : q ≡ x). rw (eq-eqb q x e, eq-eqb x q (sym e)) (omega (arith, hits x qs)))
     (λ (e : q ≢ x). rw (ne-eqb q x e, ne-eqb x q (λ u. e (sym u))) (omega (arith, hits x qs))) (same-or-not q x)
 
-module _ (m : ListOrderedMultimap) (g : WellLinked m) where
+module _ (m : Arrays) (g : WellLinked m) where
   abbrev ks : List ℕ
   ks = order (membersOf m)
 
@@ -47,7 +47,8 @@ module _ (m : ListOrderedMultimap) (g : WellLinked m) where
       ap length (filter-map (eqb k) (at (m .keys)) ks)
       ∙ length-map (keep (λ q. eqb k (at (m .keys) q)) ks) (at (m .keys))
       ∙ ap length (keep-same (λ q. eqb k (at (m .keys) q)) (λ q. eqb q x) ks
-      (λ q i. subst (λ (n : ℕ). eqb n (at (m .keys) q) ≡ eqb q x) (w .number) (same-number (m .index) (m .keys) ks (g .index) q x i (w .member))))
+      (λ q i. subst (λ (n : ℕ). eqb n (at (m .keys) q) ≡ eqb q x) (w .number)
+      (same-number (m .index) (m .keys) ks (g .index) q x i (w .member))))
       ∙ hits x ks
       ∙ omega (arith, w .member, place-once (membersOf m) (g .chained .members) x)
 
@@ -65,7 +66,8 @@ module _ (m : ListOrderedMultimap) (g : WellLinked m) where
     where
       go : (r : Found) → search (m .index) (m .keys) k ≡ r → times (eqb k) (members m) ≡ cond (has k (pairs m)) 1 0
       go (At p x n) e = let w = found m g k p n x e in rw (member-has k (x .0) w (has k (pairs m)) refl) (member-once k (x .0) w)
-      go (Absent p n) e = let w = not-found m g k p n e in rw (other-has k w (has k (pairs m)) refl) (any-none (eqb k) (members m) (w .absent))
+      go (Absent p n) e =
+          let w = not-found m g k p n e in rw (other-has k w (has k (pairs m)) refl) (any-none (eqb k) (members m) (w .absent))
 
   pub represents : Proper (stateOf m)
   represents =

@@ -11,53 +11,67 @@ use Rattle.index.specs.Table.{Holds}
 use Rattle.links.specs.Path.{one, count}
 use Rattle.links.specs.Places.{order, Linked}
 use Rattle.links.proofs.Lists.{length-order, in-array}
-use Rattle.multimap.specs.Map.{at, roundsOf, membersOf, linksOf}
+use Rattle.multimap.specs.Arrays.{Arrays, Sized}
+use Rattle.multimap.specs.Map.{at, roundsOf, membersOf}
 use Rattle.multimap.specs.WellLinked.{WellLinked}
-use Rattle.multimap.specs.declared.ListOrderedMultimap.{ListOrderedMultimap}
 use Rattle.multimap.proofs.Stores.{mem-count, count-mem}
 use Rattle.well_linked.specs.Marks.{marks}
-use Rattle.well_linked.proofs.Numbers.{repeated}
-use Rattle.well_linked.specs.Chains.{Chains, Begun, Followed, End, Ends, Recorded}
+use Rattle.well_linked.specs.Chains.{Used, Inside, Chains, Begun, Followed, Ends, Recorded}
+use Rattle.well_linked.proofs.Repeats.{repeated}
 
 pub begun : (tail : List ℕ) → length tail ≡ 256 → ((k : ℕ) → k < 256 → at tail k ≡ 1024 + k) → Begun tail (replicate 256 0)
 begun tail l b = record { bases = b; none = λ k. repeated ℕ 256 k 0; long-tail = l; long-many = length-replicate {A = ℕ} 256 0 }
+
+module _ {key next prev long : ℕ → ℕ} {all : List ℕ} {used : List Bool} where
+  pub recorded-chains : Recorded key next prev long all used → Chains key next prev all used
+  recorded-chains w = record { keys = w .keys; chain = w .chain }
+
+  module _ {tail many : List ℕ} (f : Followed key next prev all used tail many) where
+    pub recorded-so : Ends next prev long used tail many → Recorded key next prev long all used
+    recorded-so e =
+        record {
+          keys = f .keys;
+          chain = λ k l u. f .of k l (e k l u .next, e k l u .prev);
+          size = λ k l u. e k l u .size ∙ f .counted k l;
+          some = λ k l u. omega (arith, e k l u .some, f .counted k l);
+        }
+
+    pub ends-so : Recorded key next prev long all used → Ends next prev long used tail many
+    ends-so w k l u =
+        let closed = f .to k l (w .chain k l u) in
+        record {
+          next = closed .0;
+          prev = closed .1;
+          size = w .size k l u ∙ sym (f .counted k l);
+          some = omega (arith, w .some k l u, f .counted k l);
+        }
 
 one-true : (b : Bool) (n : ℕ) → one b ≡ n → 0 < n → b ≡ true
 one-true true n e h = refl
 one-true false n e h = absurd (omega arith)
 
-module _ (m : ListOrderedMultimap) (g : Linked (membersOf m)) (used : List Bool) (u : (q : ℕ) → marks used q ≡ count q (order (membersOf m))) where
+-- what the check asks of the members' records
+abbrev pub Records : Arrays → List Bool → Type 0
+Records m used =
+    Recorded (at (m .«key_index»)) (at (m .«next_index»)) (at (m .«previous_index»)) (at (m .lengths)) (order (roundsOf m)) used
+
+pub inside : (m : Arrays) → Linked (roundsOf m) → Inside (order (roundsOf m))
+inside m g = record { below = in-array (roundsOf m) g; few = omega (arith, length-order (roundsOf m), g .some-used, g .some-fresh) }
+
+-- both lists are linked, and the members in use are marked
+module _ (m : Arrays) (r : Linked (roundsOf m)) (g : Linked (membersOf m)) (used : List Bool)
+    (u : (q : ℕ) → marks used q ≡ count q (order (membersOf m))) where
   abbrev ks : List ℕ
   ks = order (membersOf m)
 
-  to-use : (k : ℕ) → 0 < count k ks → getD used k false ≡ true
+  to-use : (k : ℕ) → 0 < count k ks → Used used k
   to-use k h = one-true (getD used k false) (count k ks) (u k) h
 
-  of-use : (k : ℕ) → getD used k false ≡ true → 0 < count k ks
+  of-use : (k : ℕ) → Used used k → 0 < count k ks
   of-use k e = omega (arith, u k, ap one e)
 
   below : (k : ℕ) → 0 < count k ks → k < 256
   below k h = in-array (membersOf m) g k h
-
-  pub recorded-chains : Recorded (linksOf m) → Chains (linksOf m) used
-  recorded-chains w = record { keys = λ q h. to-use _ (w .keys q h); chain = λ k l e. w .chain k (of-use k e) }
-
-  module _ (tail many : List ℕ) (f : Followed (linksOf m) used tail many) where
-    pub recorded-so : Ends (linksOf m) used tail many → Recorded (linksOf m)
-    recorded-so e =
-        let end : (k : ℕ) → 0 < count k ks → End (linksOf m .next) (linksOf m .prev) (linksOf m .size) tail many k = λ k h. e k (below k h) (to-use k h) in
-        record {
-          keys = λ q h. of-use _ (f .keys q h);
-          chain = λ k h. f .of k (below k h) (end k h .next, end k h .prev);
-          size = λ k h. end k h .size ∙ f .counted k (below k h);
-          some = λ k h. omega (arith, end k h .some, f .counted k (below k h));
-        }
-
-    pub ends-so : Recorded (linksOf m) → Ends (linksOf m) used tail many
-    ends-so w k l e =
-        let h : 0 < count k ks = of-use k e in
-        let closed = f .to k l (w .chain k h) in
-        record { next = closed .0; prev = closed .1; size = w .size k h ∙ sym (f .counted k l); some = omega (arith, w .some k h, f .counted k l) }
 
   -- the marks list the members for the index
   pub listed : Lists used ks
@@ -68,15 +82,28 @@ module _ (m : ListOrderedMultimap) (g : Linked (membersOf m)) (used : List Bool)
         of = λ k i. (below k (mem-count k ks i), to-use k (mem-count k ks i));
       }
 
-pub recorded : (m : ListOrderedMultimap) → WellLinked m → Recorded (linksOf m)
-recorded m w = record { keys = w .chained .keys; chain = w .chained .chain; size = w .chained .size; some = w .some }
+  pub recorded : WellLinked m → Records m used
+  recorded w =
+      record {
+        keys = λ q h. to-use _ (w .chained .keys q h);
+        chain = λ k l e. w .chained .chain k (of-use k e);
+        size = λ k l e. w .chained .size k (of-use k e);
+        some = λ k l e. w .some k (of-use k e);
+      }
 
-pub well-linked-so : (m : ListOrderedMultimap) → Linked (roundsOf m) → Linked (membersOf m) → Recorded (linksOf m) → m .taken ≤ maxTaken
-    → Holds (m .index) (m .keys) (order (membersOf m)) → WellLinked m
-well-linked-so m r g c t h =
-    record {
-      chained = record { rounds = r; members = g; keys = c .keys; chain = c .chain; size = c .size };
-      some = c .some;
-      index = h;
-      taken = t;
-    }
+  pub well-linked-so : Records m used → Sized m → m .taken ≤ maxTaken → Holds (m .index) (m .keys) ks → WellLinked m
+  well-linked-so c s t h =
+      record {
+        sized = s;
+        chained =
+            record {
+              rounds = r;
+              members = g;
+              keys = λ q i. of-use _ (c .keys q i);
+              chain = λ k i. c .chain k (below k i) (to-use k i);
+              size = λ k i. c .size k (below k i) (to-use k i);
+            };
+        some = λ k i. c .some k (below k i) (to-use k i);
+        index = h;
+        taken = t;
+      }

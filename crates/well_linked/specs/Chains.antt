@@ -1,26 +1,38 @@
 -- The members' chains as the check walks them: along the list of rounds, with the last cell of each chain so far. Assumes nothing.
-use Prim.Native.Nat.{ℕ, _+_, _<_}
+use Prim.Native.Nat.{ℕ, _+_, _≤_, _<_}
 use mathlib.Core.Path.{_≡_}
 use mathlib.Core.Bool.{Bool, true, false}
 use mathlib.Core.List.{List, []}
 use lib.ListN.{length, getD}
-use Rattle.links.specs.Path.{count, Path}
-use Rattle.links.specs.Places.{order}
-use Rattle.links.specs.Links.{Links, base, recordIn}
-use Rattle.multimap.specs.Map.{at}
+use Rattle.links.specs.Path.{count, walk, Path}
+use Rattle.links.specs.Links.{recordOf}
+use Rattle.links.specs.Stores.{at}
 
--- from the base of the member place k its rounds are met in order, and then the base again
-abbrev pub Chain : Links → ℕ → Type 0
-Chain c k = Path (c .next) (c .prev) (base c k) (recordIn c k) (base c k)
+-- the first n rounds in order
+abbrev pub trail : List ℕ → ℕ → List ℕ
+trail next n = walk (at next) (at next 1024) n
+
+-- they are places of rounds, and at most as many
+pub record Inside (all : List ℕ) : Type 0 where
+  pub below : (q : ℕ) → 0 < count q all → q < 1024
+  pub few : length all ≤ 1024
+
+-- the member place k is in use
+abbrev pub Used : List Bool → ℕ → Type 0
+Used used k = getD used k false ≡ true
+
+-- from the cell a the rounds of the member place k among xs are met in order, and then k's base
+abbrev pub From : (key next prev : ℕ → ℕ) (xs : List ℕ) (a k : ℕ) → Type 0
+From key next prev xs a k = Path next prev a (recordOf key k xs) (1024 + k)
 
 -- the cell a is the last of the chain of k
-abbrev pub Closed : Links → ℕ → ℕ → Type 0
-Closed c a k = Path (c .next) (c .prev) a [] (base c k)
+abbrev pub Closed : (next prev : ℕ → ℕ) (a k : ℕ) → Type 0
+Closed next prev a k = Path next prev a [] (1024 + k)
 
 -- each round has a member place in use, and each of these a chain of its rounds
-pub record Chains (c : Links) (used : List Bool) : Type 0 where
-  pub keys : (q : ℕ) → 0 < count q (order (c .rounds)) → getD used (c .key q) false ≡ true
-  pub chain : (k : ℕ) → k < 256 → getD used k false ≡ true → Chain c k
+pub record Chains (key next prev : ℕ → ℕ) (all : List ℕ) (used : List Bool) : Type 0 where
+  pub keys : (q : ℕ) → 0 < count q all → Used used (key q)
+  pub chain : (k : ℕ) → k < 256 → Used used k → From key next prev all (1024 + k) k
 
 -- no round is followed yet
 pub record Begun (tail many : List ℕ) : Type 0 where
@@ -30,17 +42,17 @@ pub record Begun (tail many : List ℕ) : Type 0 where
   pub long-many : length many ≡ 256
 
 -- All rounds are followed: `tail` has the cell that must be the last of each chain, and `many` the number of its rounds.
-pub record Followed (c : Links) (used : List Bool) (tail many : List ℕ) : Type 0 where
-  pub keys : (q : ℕ) → 0 < count q (order (c .rounds)) → getD used (c .key q) false ≡ true
-  pub to : (k : ℕ) → k < 256 → Chain c k → Closed c (at tail k) k
-  pub of : (k : ℕ) → k < 256 → Closed c (at tail k) k → Chain c k
-  pub counted : (k : ℕ) → k < 256 → at many k ≡ length (recordIn c k)
+pub record Followed (key next prev : ℕ → ℕ) (all : List ℕ) (used : List Bool) (tail many : List ℕ) : Type 0 where
+  pub keys : (q : ℕ) → 0 < count q all → Used used (key q)
+  pub to : (k : ℕ) → k < 256 → From key next prev all (1024 + k) k → Closed next prev (at tail k) k
+  pub of : (k : ℕ) → k < 256 → Closed next prev (at tail k) k → From key next prev all (1024 + k) k
+  pub counted : (k : ℕ) → k < 256 → at many k ≡ length (recordOf key k all)
   pub fits : (k : ℕ) → k < 256 → at tail k < 1280
 
 -- r says whether all rounds could be followed; a no means that the rounds are not chained
-pub record Walked (c : Links) (used : List Bool) (tail many : List ℕ) (r : Bool) : Type 0 where
-  pub yes : r ≡ true → Followed c used tail many
-  pub no : r ≡ false → Chains c used → ⊥
+pub record Walked (key next prev : ℕ → ℕ) (all : List ℕ) (used : List Bool) (tail many : List ℕ) (r : Bool) : Type 0 where
+  pub yes : r ≡ true → Followed key next prev all used tail many
+  pub no : r ≡ false → Chains key next prev all used → ⊥
 
 -- `tail` has the last cell of the chain of k, and `many` its length, which is not 0
 pub record End (n p long : ℕ → ℕ) (tail many : List ℕ) (k : ℕ) : Type 0 where
@@ -50,12 +62,12 @@ pub record End (n p long : ℕ → ℕ) (tail many : List ℕ) (k : ℕ) : Type 
   pub some : 0 < at many k
 
 -- and so for each member place in use
-abbrev pub Ends : Links → List Bool → List ℕ → List ℕ → Type 0
-Ends c used tail many = (k : ℕ) → k < 256 → getD used k false ≡ true → End (c .next) (c .prev) (c .size) tail many k
+abbrev pub Ends : (next prev long : ℕ → ℕ) (used : List Bool) (tail many : List ℕ) → Type 0
+Ends next prev long used tail many = (k : ℕ) → k < 256 → Used used k → End next prev long tail many k
 
 -- what a well-linked map asks of its members' records, besides the two lists and the index
-pub record Recorded (c : Links) : Type 0 where
-  pub keys : (q : ℕ) → 0 < count q (order (c .rounds)) → 0 < count (c .key q) (order (c .members))
-  pub chain : (k : ℕ) → 0 < count k (order (c .members)) → Chain c k
-  pub size : (k : ℕ) → 0 < count k (order (c .members)) → c .size k ≡ length (recordIn c k)
-  pub some : (k : ℕ) → 0 < count k (order (c .members)) → 0 < length (recordIn c k)
+pub record Recorded (key next prev long : ℕ → ℕ) (all : List ℕ) (used : List Bool) : Type 0 where
+  pub keys : (q : ℕ) → 0 < count q all → Used used (key q)
+  pub chain : (k : ℕ) → k < 256 → Used used k → From key next prev all (1024 + k) k
+  pub size : (k : ℕ) → k < 256 → Used used k → long k ≡ length (recordOf key k all)
+  pub some : (k : ℕ) → k < 256 → Used used k → 0 < length (recordOf key k all)

@@ -7,11 +7,12 @@ use lib.ListN.{getD}
 use Rattle.index.specs.Agree.{Decides}
 use Rattle.links.specs.Path.{one, count}
 use Rattle.links.specs.Places.{Places}
-use Rattle.multimap.specs.Map.{at}
+use Rattle.links.specs.Stores.{at}
 
--- a list of places whose links are arrays of numbers
-abbrev pub listOf : List ℕ → List ℕ → ℕ → ℕ → ℕ → ℕ → Places
-listOf next prev root len fresh free = record { next = at next; prev = at prev; root = root; len = len; fresh = fresh; free = free }
+-- a list of places whose links and counts are arrays
+abbrev pub listOf : (next previous : List ℕ) → ℕ → (counts : List ℕ) → Places
+listOf next previous root counts =
+    record { next = at next; prev = at previous; root = root; len = at counts 0; fresh = at counts 1; free = at counts 2 }
 
 -- 1 where the place q is marked, else 0
 abbrev pub marks : List Bool → ℕ → ℕ

@@ -1,45 +1,117 @@
-// The well-linked check (document 01, module 6), for any value of the record: linear passes over the lists, the chains and the index.
-use index::KeyPlace;
-use multimap::ListOrderedMultimap;
+// The well-linked check (document 01, module 6), for whatever a map's arrays hold: linear passes over the lists, the chains and the index.
+// The public functions have no premise.
+use multimap::Counts;
+use multimap::Index;
+use multimap::IndexLinks;
+use multimap::KeyIndex;
+use multimap::KeyLinks;
+use multimap::Keys;
+use multimap::Lengths;
 use multimap::MEMBERS;
 use multimap::ROUNDS;
-use multimap::ValuePlace;
+use multimap::ValueLinks;
+use multimap::Values;
 ghost use mathlib.Core.Path.{_≡_};
 ghost use Prim.Native.Nat.{ℕ, _+_, _≤_, _<_};
 ghost use lib.ListN.{length};
 ghost use Rattle.index.specs.Agree.{Decides};
 ghost use Rattle.links.specs.Path.{count, walk, Path};
-ghost use Rattle.links.specs.Places.{Linked, order};
-ghost use Rattle.multimap.specs.Map.{at, keyAt, valueAt, roundsOf, membersOf, linksOf};
+ghost use Rattle.links.specs.Places.{Linked};
+ghost use Rattle.links.specs.Stores.{at};
+ghost use Rattle.multimap.specs.Arrays.{Arrays};
+ghost use Rattle.multimap.specs.Lent.{lent};
 ghost use Rattle.multimap.specs.WellLinked.{WellLinked};
-ghost use Rattle.well_linked.specs.Marks.{Marks, marks, listOf};
-ghost use Rattle.well_linked.specs.Chains.{Begun, Walked, Ends, Recorded};
+ghost use Rattle.well_linked.specs.Chains.{trail, Inside, Begun, Walked, Ends, Recorded};
+ghost use Rattle.well_linked.specs.Marks.{Marks, listOf};
+ghost use Rattle.well_linked.specs.Told.{Tells};
 
-// The links of the list of rounds, and of members, as numbers.
-fn round_links(places: [ValuePlace; 1025]) -> [u16; 1025]
-    ensures { λ r. ⌜ at r ≡ valueAt places ⌝ }
+// Whether a map is well-linked.
+#[rattlefmt::skip]
+pub fn well_linked<'a>(
+    keys: &'a Keys, lengths: &'a Lengths, next_key: &'a KeyLinks, previous_key: &'a KeyLinks,
+    values: &'a Values, key_index: &'a KeyIndex, next_value: &'a ValueLinks, previous_value: &'a ValueLinks,
+    next_index: &'a IndexLinks, previous_index: &'a IndexLinks, index: &'a Index,
+    members: &'a Counts, rounds: &'a Counts, taken: &'a u32,
+) -> bool
+    ghost { Arrays }
+    requires { λ α. ⌜ lent keys lengths «next_key» «previous_key» values «key_index» «next_value» «previous_value» «next_index» «previous_index» index members rounds taken ≡ α ⌝ }
+    ensures { λ α r. ⌜ Decides r (WellLinked α) ⌝ }
 {
-    let mut out = [0u16; 1025];
-    let mut i: usize = 0;
-    while i < 1025 {
-        let place = places[i];
-        out[i] = place.0;
-        i += 1;
+    shown(keys, lengths, values, key_index, next_index, previous_index, index, members, rounds, *taken);
+    if !list_linked(next_value, previous_value, ROUNDS, rounds) {
+        return false;
     }
-    out
+    if !list_linked(next_key, previous_key, MEMBERS, members) {
+        return false;
+    }
+    let first = next_key[256];
+    let len = members[0];
+    let fresh = members[1];
+    // The member places in use: as the list is linked, each is met once.
+    let mut used = [false; 256];
+    mark(next_key, first, len, fresh, &mut used);
+    let held = rounds[0];
+    if !chains_linked(lengths, key_index, next_value, next_index, previous_index, held, &used) {
+        return false;
+    }
+    index::agrees(index, keys, &used)
 }
 
-fn member_links(places: [KeyPlace; 257]) -> [u16; 257]
-    ensures { λ r. ⌜ at r ≡ keyAt places ⌝ }
+// Says the same by a number: 1 for yes, 0 for no.
+#[rattlefmt::skip]
+#[no_mangle]
+pub extern "C" fn om_well_linked<'a>(
+    keys: &'a Keys, lengths: &'a Lengths, next_key: &'a KeyLinks, previous_key: &'a KeyLinks,
+    values: &'a Values, key_index: &'a KeyIndex, next_value: &'a ValueLinks, previous_value: &'a ValueLinks,
+    next_index: &'a IndexLinks, previous_index: &'a IndexLinks, index: &'a Index,
+    members: &'a Counts, rounds: &'a Counts, taken: &'a u32,
+) -> u64
+    ghost { Arrays }
+    requires { λ α. ⌜ lent keys lengths «next_key» «previous_key» values «key_index» «next_value» «previous_value» «next_index» «previous_index» index members rounds taken ≡ α ⌝ }
+    ensures { λ α r. ⌜ Tells r (WellLinked α) ⌝ }
 {
-    let mut out = [0u16; 257];
-    let mut i: usize = 0;
-    while i < 257 {
-        let place = places[i];
-        out[i] = place.0;
-        i += 1;
+    if well_linked(keys, lengths, next_key, previous_key, values, key_index, next_value, previous_value, next_index,
+        previous_index, index, members, rounds, taken) { 1 } else { 0 }
+}
+
+// Does nothing: arrays that are lent as slices tell the proof how long they are, and a number that is read tells it its bound.
+fn shown<'a>(
+    keys: &'a [u64],
+    lengths: &'a [u16],
+    values: &'a [u64],
+    key_index: &'a [u16],
+    next_index: &'a [u16],
+    previous_index: &'a [u16],
+    index: &'a [u16],
+    members: &'a [u16],
+    rounds: &'a [u16],
+    taken: u32,
+) {}
+
+// Whether a list of places is linked that begins and ends at the cell `root`. The counts are how many places are in use, how many have ever
+// been, and the first freed one.
+fn list_linked<'a>(next: &'a [u16], previous: &'a [u16], root: u16, counts: &'a Counts) -> bool
+    requires { ⌜ (root < length (now next)) × (length (now previous) ≡ length (now next)) × (root ≤ 1024) ⌝ }
+    ensures { λ r. ⌜ Decides r (Linked (listOf (now (next .entry)) (now (previous .entry)) root (now (counts .entry)))) ⌝ }
+{
+    let len = counts[0];
+    let fresh = counts[1];
+    let free = counts[2];
+    if fresh < len {
+        return false;
     }
-    out
+    if root < fresh {
+        return false;
+    }
+    let mut met = [false; 1024];
+    let first = next[root as usize];
+    if !mark(next, first, len, fresh, &mut met) {
+        return false;
+    }
+    if !mark(next, free, fresh - len, fresh, &mut met) {
+        return false;
+    }
+    both_ways(next, previous, root, len)
 }
 
 // Follows `next` from a place for so many places and marks each: no, where one is not below `fresh` or is marked before it is met.
@@ -69,7 +141,8 @@ fn mark(next: &[u16], from: u16, many: u16, fresh: u16, met: &mut [bool]) -> boo
 fn both_ways<'a>(next: &'a [u16], previous: &'a [u16], root: u16, many: u16) -> bool
     requires { ⌜ (root < length (now next)) × (length (now previous) ≡ length (now next))
         × ((q : ℕ) → 0 < count q (walk (at (now next)) (at (now next) root) many) → q < length (now next)) ⌝ }
-    ensures { λ r. ⌜ Decides r (Path (at (now (next .entry))) (at (now (previous .entry))) root (walk (at (now (next .entry))) (at (now (next .entry)) root) many) root) ⌝ }
+    ensures { λ r. ⌜ Decides r (Path (at (now (next .entry))) (at (now (previous .entry))) root
+        (walk (at (now (next .entry))) (at (now (next .entry)) root) many) root) ⌝ }
 {
     let mut here = root;
     let mut i: u16 = 0;
@@ -93,77 +166,35 @@ fn both_ways<'a>(next: &'a [u16], previous: &'a [u16], root: u16, many: u16) -> 
     true
 }
 
-// Whether a list of places is linked: its end cell is `root`, `len` places are in use, `fresh` have ever been, and the freed begin at `free`.
-fn list_linked<'a>(
-    next: &'a [u16],
-    previous: &'a [u16],
-    root: u16,
+// Whether each round has a member place in use, and each of these a chain of its rounds, its length and at least one round.
+fn chains_linked<'a>(
+    lengths: &'a Lengths,
+    key_index: &'a KeyIndex,
+    next_value: &'a ValueLinks,
+    next_index: &'a IndexLinks,
+    previous_index: &'a IndexLinks,
     len: u16,
-    fresh: u16,
-    free: u16,
+    used: &'a [bool; 256],
 ) -> bool
-    requires { ⌜ (root < length (now next)) × (length (now previous) ≡ length (now next)) × (root ≤ 1024) ⌝ }
-    ensures { λ r. ⌜ Decides r (Linked (listOf (now (next .entry)) (now (previous .entry)) root len fresh free)) ⌝ }
+    requires { ⌜ Inside (trail (now «next_value») len) ⌝ }
+    ensures { λ r. ⌜ Decides r (Recorded (at (now («key_index» .entry))) (at (now («next_index» .entry))) (at (now («previous_index» .entry)))
+        (at (now (lengths .entry))) (trail (now («next_value» .entry)) len) (now (used .entry))) ⌝ }
 {
-    if fresh < len {
+    let mut tail = bases();
+    let mut many = [0u16; 256];
+    if !follow_chains(
+        key_index,
+        next_value,
+        next_index,
+        previous_index,
+        len,
+        used,
+        &mut tail,
+        &mut many,
+    ) {
         return false;
     }
-    if root < fresh {
-        return false;
-    }
-    let mut met = [false; 1024];
-    let first = next[root as usize];
-    if !mark(next, first, len, fresh, &mut met) {
-        return false;
-    }
-    if !mark(next, free, fresh - len, fresh, &mut met) {
-        return false;
-    }
-    both_ways(next, previous, root, len)
-}
-
-// Whether the list of rounds is linked.
-fn rounds_linked(m: ListOrderedMultimap) -> bool
-    ensures { λ r. ⌜ Decides r (Linked (roundsOf m)) ⌝ }
-{
-    let next_value = m.next_value;
-    let previous_value = m.previous_value;
-    let next = round_links(next_value);
-    let previous = round_links(previous_value);
-    let free = m.values_free;
-    list_linked(
-        &next,
-        &previous,
-        ROUNDS,
-        m.values_len,
-        m.values_fresh,
-        free.0,
-    )
-}
-
-// Whether the list of members is linked.
-fn members_linked(m: ListOrderedMultimap) -> bool
-    ensures { λ r. ⌜ Decides r (Linked (membersOf m)) ⌝ }
-{
-    let next_key = m.next_key;
-    let previous_key = m.previous_key;
-    let next = member_links(next_key);
-    let previous = member_links(previous_key);
-    let free = m.keys_free;
-    list_linked(&next, &previous, MEMBERS, m.keys_len, m.keys_fresh, free.0)
-}
-
-// Which member places are in use.
-fn members_used(m: ListOrderedMultimap) -> [bool; 256]
-    requires { ⌜ Linked (membersOf m) ⌝ }
-    ensures { λ r. ⌜ ((q : ℕ) → marks r q ≡ count q (order (membersOf m))) ⌝ }
-{
-    let next_key = m.next_key;
-    let next = member_links(next_key);
-    let first = next[256];
-    let mut used = [false; 256];
-    mark(&next, first, m.keys_len, m.keys_fresh, &mut used);
-    used
+    ends_meet(lengths, next_index, previous_index, used, &tail, &many)
 }
 
 // The cells at which the members' chains begin.
@@ -182,42 +213,41 @@ fn bases() -> [u16; 256]
 
 // Follows the rounds in order. Each joins the chain of its member place: `tail` has the last cell of each chain so far, and `many` its
 // number of rounds. No, where a round's member place is not in use or the links between it and that last cell are others.
-fn follow_chains(
-    m: ListOrderedMultimap,
-    used: [bool; 256],
+fn follow_chains<'a>(
+    key_index: &'a KeyIndex,
+    next_value: &'a ValueLinks,
+    next_index: &'a IndexLinks,
+    previous_index: &'a IndexLinks,
+    len: u16,
+    used: &'a [bool],
     tail: &mut [u16; 256],
     many: &mut [u16; 256],
 ) -> bool
-    requires { ⌜ Linked (roundsOf m) × Begun (now tail) (now many) ⌝ }
-    ensures { λ r. ⌜ Walked (linksOf m) used (now (tail .exit)) (now (many .exit)) r ⌝ }
+    requires { ⌜ Inside (trail (now «next_value») len) × (length (now used) ≡ 256) × Begun (now tail) (now many) ⌝ }
+    ensures { λ r. ⌜ Walked (at (now («key_index» .entry))) (at (now («next_index» .entry))) (at (now («previous_index» .entry)))
+        (trail (now («next_value» .entry)) len) (now (used .entry)) (now (tail .exit)) (now (many .exit)) r ⌝ }
 {
-    let next_value = m.next_value;
-    let key_index = m.key_index;
-    let next_index = m.next_index;
-    let previous_index = m.previous_index;
-    let len = m.values_len;
     let mut here: u16 = ROUNDS;
     let mut i: u16 = 0;
     while i < len {
-        let place = next_value[here as usize];
-        here = place.0;
+        here = next_value[here as usize];
         let q = here as usize;
         let key = key_index[q];
-        let k = key.0 as usize;
-        if 256 <= k {
+        if MEMBERS <= key {
             return false;
         }
+        let k = key as usize;
         let in_use = used[k];
         if !in_use {
             return false;
         }
         let last = tail[k];
         let back = previous_index[q];
-        if back.0 != last {
+        if back != last {
             return false;
         }
         let on = next_index[last as usize];
-        if on.0 != here {
+        if on != here {
             return false;
         }
         tail[k] = here;
@@ -228,29 +258,34 @@ fn follow_chains(
 }
 
 // Whether each chain of a member place in use ends at its base, and its length is its number of rounds, of which there are some.
-fn ends_meet(m: ListOrderedMultimap, used: [bool; 256], tail: [u16; 256], many: [u16; 256]) -> bool
-    requires { ⌜ ((k : ℕ) → k < 256 → at tail k < 1280) ⌝ }
-    ensures { λ r. ⌜ Decides r (Ends (linksOf m) used tail many) ⌝ }
+fn ends_meet<'a>(
+    lengths: &'a Lengths,
+    next_index: &'a IndexLinks,
+    previous_index: &'a IndexLinks,
+    used: &'a [bool; 256],
+    tail: &'a [u16; 256],
+    many: &'a [u16; 256],
+) -> bool
+    requires { ⌜ ((k : ℕ) → k < 256 → at (now tail) k < 1280) ⌝ }
+    ensures { λ r. ⌜ Decides r (Ends (at (now («next_index» .entry))) (at (now («previous_index» .entry))) (at (now (lengths .entry)))
+        (now (used .entry)) (now (tail .entry)) (now (many .entry))) ⌝ }
 {
-    let next_index = m.next_index;
-    let previous_index = m.previous_index;
-    let length = m.length;
-    let mut k: usize = 0;
-    while k < 256 {
+    let mut key: u16 = 0;
+    while key < MEMBERS {
+        let k = key as usize;
         let held = used[k];
         if held {
-            let base = 1024 + k;
+            let base = ROUNDS + key;
             let end = tail[k];
             let after = next_index[end as usize];
-            let then = after.0 as usize;
-            if then != base {
+            if after != base {
                 return false;
             }
-            let before = previous_index[base];
-            if before.0 != end {
+            let before = previous_index[base as usize];
+            if before != end {
                 return false;
             }
-            let long = length[k];
+            let long = lengths[k];
             let rounds = many[k];
             if long != rounds {
                 return false;
@@ -259,39 +294,7 @@ fn ends_meet(m: ListOrderedMultimap, used: [bool; 256], tail: [u16; 256], many: 
                 return false;
             }
         }
-        k += 1;
+        key += 1;
     }
     true
-}
-
-// Whether each round has a member place in use, and each of these a chain of its rounds, its length and at least one round.
-fn chains_linked(m: ListOrderedMultimap, used: [bool; 256]) -> bool
-    requires { ⌜ Linked (roundsOf m) × Linked (membersOf m) × ((q : ℕ) → marks used q ≡ count q (order (membersOf m))) ⌝ }
-    ensures { λ r. ⌜ Decides r (Recorded (linksOf m)) ⌝ }
-{
-    let mut tail = bases();
-    let mut many = [0u16; 256];
-    if !follow_chains(m, used, &mut tail, &mut many) {
-        return false;
-    }
-    ends_meet(m, used, tail, many)
-}
-
-// Whether a map is well-linked.
-pub fn well_linked(m: ListOrderedMultimap) -> bool
-    ensures { λ r. ⌜ Decides r (WellLinked m) ⌝ }
-{
-    if !rounds_linked(m) {
-        return false;
-    }
-    if !members_linked(m) {
-        return false;
-    }
-    let used = members_used(m);
-    if !chains_linked(m, used) {
-        return false;
-    }
-    let index = m.index;
-    let keys = m.keys;
-    index::agrees(&index, &keys, &used)
 }

@@ -15,13 +15,13 @@ array-share-prefix-text c = search needs
 slice-aggregate-buffer : tie.Need-slice-aggregate-buffer
 slice-aggregate-buffer c =
     let a = c .before .before .answer-line in
-    sym (length-take-le (a .result .count) (a .last .1 .1 .0) (a .ensures .room))
+    sym (length-take-le (a .result) (a .last .1 .1 .1 .1 .1 .1 .1 .1 .1 .1 .1 .1 .1 .1 .1 .0) (a .ensures .room))
 
 buffer-requires : tie.Need-buffer-requires
 buffer-requires c κs =
     let a = c .before .before .answer-line in
-    let s = c .before .before .before .before .before .before in
-    (s .pre .1, omega (arith, s .pre .2, a .ensures .most, length-take-le (a .result .count) (a .last .1 .1 .0) (a .ensures .room)))
+    let s = c .before .before .before .before .before .before .before .before .before .before .before .before .before .before .before .before .before .before .before .before in
+    (s .pre .1, omega (arith, s .pre .2, a .ensures .most, length-take-le (a .result) (a .last .1 .1 .1 .1 .1 .1 .1 .1 .1 .1 .1 .1 .1 .1 .1 .0) (a .ensures .room)))
 
 same-length : tie.Need-same-length
 same-length c = search needs

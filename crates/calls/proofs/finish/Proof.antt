@@ -20,7 +20,7 @@ array-share-prefix-out c = search needs
 slice-aggregate-write-all : tie.Need-slice-aggregate-write-all
 slice-aggregate-write-all c =
     let a = c .before .before .before .answer in
-    sym (length-take-le (a .result .used) (a .last .1 .1 .0) (a .ensures .1))
+    sym (length-take-le (a .result .used) (a .last .1 .1 .1 .1 .1 .1 .1 .1 .1 .1 .1 .1 .1 .1 .1 .0) (a .ensures .1))
 
 write-all-requires : tie.Need-write-all-requires
 write-all-requires c κs = search needs

@@ -45,7 +45,9 @@ slice-aggregate-answer-chunk-2 : tie.Need-slice-aggregate-answer-chunk-2
 slice-aggregate-answer-chunk-2 c = search needs
 
 answer-chunk-requires : tie.Need-answer-chunk-requires
-answer-chunk-requires c κs = search needs
+answer-chunk-requires c κs =
+    let s = c .before .before .before .before .before .before .before .before .before .before .before .before .before .before .before .before .before .before .before .before .before .before .before .before .before .before .before in
+    (s .pre .0, sym (c .before .before .before .before .before .before .before .before .before .before .before .before .before .before .before .before .before .large-buffer2 .ensures), s .pre .1, s .pre .2)
 
 same-length : tie.Need-same-length
 same-length c = search needs
@@ -58,8 +60,8 @@ array-share-prefix-out c = search needs
 
 slice-aggregate-write-all : tie.Need-slice-aggregate-write-all
 slice-aggregate-write-all c =
-    let a = c .before .before .before .before .before .before .before .answer-chunk in
-    sym (length-take-le (a .result .used) (a .last .1 .1 .1 .1 .0) (a .ensures .1))
+    let a = c .before .before .before .before .before .before .answer-chunk in
+    sym (length-take-le (a .result .used) (a .last .1 .1 .1 .1 .1 .1 .1 .1 .1 .1 .1 .1 .1 .1 .1 .1 .1 .0) (a .ensures .1))
 
 write-all-requires : tie.Need-write-all-requires
 write-all-requires c κs = search needs

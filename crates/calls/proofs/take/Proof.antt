@@ -15,7 +15,7 @@ slice-reshare-prefix-answer c = search needs
 
 slice-aggregate-answer : tie.Need-slice-aggregate-answer
 slice-aggregate-answer c =
-    let t = c .before .before .before .before .take-line in
+    let t = c .before .before .before .before .before .before .before .before .before .before .before .before .before .before .before .before .before .before .take-line in
     sym (length-take-le (t .result .held) (t .last .1 .0) (t .ensures .holds .within))
 
 answer-requires : tie.Need-answer-requires
@@ -29,9 +29,9 @@ same-length-2 c = search needs
 
 returns : tie.Need-returns
 returns c =
-    let a = c .before .before .before .answer in
-    let t = c .before .before .before .before .before .before .before .before .before .take-line in
-    let u = used-some (t .ensures) (c .before .before .before .before .before .before .before .before .before .before .before .before .before .before .pre .3) in
+    let a = c .before .before .answer in
+    let t = c .before .before .before .before .before .before .before .before .before .before .before .before .before .before .before .before .before .before .before .before .before .before .take-line in
+    let u = used-some (t .ensures) (c .before .before .before .before .before .before .before .before .before .before .before .before .before .before .before .before .before .before .before .before .before .before .before .before .before .before .before .pre .3) in
     (a .ensures .0, a .ensures .1, omega arith, u .0, u .1)
 
 same-length-3 : tie.Need-same-length-3

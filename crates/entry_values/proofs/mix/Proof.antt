@@ -56,15 +56,15 @@ use Rattle.entry_values.specs.Reader.{Fresh, Stepped, remaining, filledP
 use Rattle.entry_values.specs.Mix.{Mixed, given, marks, markOf, roundOf}
 use Rattle.entry_values.proofs.Mixing as P
 use Rattle.entry_values.specs.declared.EntryValues.{EntryValues}
-use Rattle.multimap.specs.Answers.{gotOf}
-use Rattle.multimap.specs.declared.Got.{Got}
+use Rattle.entry_values.specs.Got.{gotOf}
+use Rattle.entry_values.specs.declared.Got.{Got}
 use Rattle.entry_values.proofs.LentOut.{Waits, Owns, lends-out, comes-out}
 use Rattle.entry_values.proofs.LentReader.{Step, lent, to, Toks, Kept, lends, comes}
 use Rattle.entry_values.proofs.Stepping.{clauses, B, D, L}
 use Rattle.entry_values.proofs.EntryValues as T
 use Rattle.entry_values.proofs.EntryValues.Laws as T′
-use Rattle.multimap.proofs.Got as S
-use Rattle.multimap.proofs.Got.Laws as S′
+use Rattle.entry_values.proofs.Got as S
+use Rattle.entry_values.proofs.Got.Laws as S′
 use Rattle.entry_values.proofs.new as new
 use Rattle.entry_values.proofs.new.Symbol as new-def
 use Rattle.entry_values.proofs.new.Symbol.{name as #entry-values·new}

@@ -33,7 +33,8 @@ returns c =
     let a = b .before .before .before .before in
     let o = a .before .before .before .before in
     let s = o .before .before .before .before .before in
-    laid (s .args .out .now) _ (s .args .held) (s .args .members .now) (s .args .rounds .now) _ _ _ _ refl (o .put .ensures) (a .put2 .ensures) (b .put-all .ensures) (d .put-all2 .ensures)
+    laid (s .args .out .now) _ (s .args .held) (s .args .members .now) (s .args .rounds .now) _ _ _ _ refl
+    (o .put .ensures) (a .put2 .ensures) (b .put-all .ensures) (d .put-all2 .ensures)
 
 pub put-image-spec : {M : Type 1} → statement M
 put-image-spec =

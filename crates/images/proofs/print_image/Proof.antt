@@ -1,4 +1,4 @@
--- `images::print_image` meets its contract: it is safe and ends. Assumes nothing.
+-- `images::print_image` is safe and ends. Assumes nothing.
 use Prim.Native.Nat.{_-_, _≤_}
 use mathlib.Core.Logic.{⊎-elim}
 use native.Mathlib.Omega.{arith}
@@ -7,16 +7,19 @@ use Rattle.images.proofs.print_image.Statement.{statement}
 use Rattle.images.proofs.print_image.Tie as tie
 
 abbrev Inv-loop : tie.InvT-loop
-Inv-loop s out wrong₀ i₀ t7 t8 wrong i = (i ≤ 16393) × (wrong ≤ i)
+Inv-loop keys values key-index next-value members rounds s out wrong₀ i₀ t13 t14 wrong i = (i ≤ 16393) × (wrong ≤ i)
 
 abbrev μ-loop : tie.MeasureT-loop
-μ-loop s out wrong₀ i₀ t7 t8 wrong i = 16393 - i
+μ-loop keys values key-index next-value members rounds s out wrong₀ i₀ t13 t14 wrong i = 16393 - i
 
-slice-aggregate-write-image : tie.Need-slice-aggregate-write-image Inv-loop μ-loop
-slice-aggregate-write-image c = search needs
+slice-aggregate-om-write-image : tie.Need-slice-aggregate-om-write-image Inv-loop μ-loop
+slice-aggregate-om-write-image c = search needs
 
-write-image-requires : tie.Need-write-image-requires Inv-loop μ-loop
-write-image-requires c κs = search needs
+om-write-image-requires : tie.Need-om-write-image-requires Inv-loop μ-loop
+om-write-image-requires c κs = search needs
+
+read-requires : tie.Need-read-requires Inv-loop μ-loop
+read-requires c κs = search needs
 
 print-written-requires : tie.Need-print-written-requires Inv-loop μ-loop
 print-written-requires c κs = search needs
@@ -66,8 +69,9 @@ print-image-spec =
     (tie.spec
     Inv-loop
     μ-loop
-    slice-aggregate-write-image
-    write-image-requires
+    slice-aggregate-om-write-image
+    om-write-image-requires
+    read-requires
     print-written-requires
     loop-holds
     array-read-if1

@@ -1,23 +1,23 @@
--- `images::print_members` meets its contract: it is safe and ends. Assumes nothing.
+-- `images::print_members` is safe and ends. Assumes nothing.
 use Prim.Native.Nat.{_-_, _≤_}
 use borrow.Author.Needs.{needs}
 use Rattle.images.proofs.print_members.Statement.{statement}
 use Rattle.images.proofs.print_members.Tie as tie
 
 abbrev Inv-loop : tie.InvT-loop
-Inv-loop m members n i₀ t6 t7 i = i ≤ 256
+Inv-loop keys next-key members first n i₀ t9 i = i ≤ 256
 
 abbrev μ-loop : tie.MeasureT-loop
-μ-loop m members n i₀ t6 t7 i = 256 - i
+μ-loop keys next-key members first n i₀ t9 i = 256 - i
 
-slice-aggregate-keys : tie.Need-slice-aggregate-keys Inv-loop μ-loop
-slice-aggregate-keys c = search needs
+slice-aggregate-om-keys : tie.Need-slice-aggregate-om-keys Inv-loop μ-loop
+slice-aggregate-om-keys c = search needs
 
-keys-requires : tie.Need-keys-requires Inv-loop μ-loop
-keys-requires c κs = search needs
+om-keys-requires : tie.Need-om-keys-requires Inv-loop μ-loop
+om-keys-requires c κs = search needs
 
-cast-n : tie.Need-cast-n Inv-loop μ-loop
-cast-n c = search needs
+array-read-n : tie.Need-array-read-n Inv-loop μ-loop
+array-read-n c = search needs
 
 slice-aggregate-write-all : tie.Need-slice-aggregate-write-all Inv-loop μ-loop
 slice-aggregate-write-all c = search needs
@@ -52,18 +52,6 @@ loop-less c = search needs
 loop-again : tie.Need-loop-again Inv-loop μ-loop
 loop-again c = search needs
 
-slice-aggregate-write-all-3 : tie.Need-slice-aggregate-write-all-3 Inv-loop μ-loop
-slice-aggregate-write-all-3 c = search needs
-
-write-all-requires-3 : tie.Need-write-all-requires-3 Inv-loop μ-loop
-write-all-requires-3 c κs = search needs
-
-cast-print-decimal : tie.Need-cast-print-decimal Inv-loop μ-loop
-cast-print-decimal c = search needs
-
-print-decimal-requires-2 : tie.Need-print-decimal-requires-2 Inv-loop μ-loop
-print-decimal-requires-2 c κs = search needs
-
 returns : tie.Need-returns Inv-loop μ-loop
 returns c = search needs
 
@@ -73,9 +61,9 @@ print-members-spec =
     (tie.spec
     Inv-loop
     μ-loop
-    slice-aggregate-keys
-    keys-requires
-    cast-n
+    slice-aggregate-om-keys
+    om-keys-requires
+    array-read-n
     slice-aggregate-write-all
     write-all-requires
     loop-holds
@@ -87,8 +75,4 @@ print-members-spec =
     add-i
     loop-less
     loop-again
-    slice-aggregate-write-all-3
-    write-all-requires-3
-    cast-print-decimal
-    print-decimal-requires-2
     returns)

@@ -1,26 +1,26 @@
--- `images::print_pairs` meets its contract: it is safe and ends. Assumes nothing.
+-- `images::print_pairs` is safe and ends. Assumes nothing.
 use Prim.Native.Nat.{_-_, _≤_}
 use borrow.Author.Needs.{needs}
 use Rattle.images.proofs.print_pairs.Statement.{statement}
 use Rattle.images.proofs.print_pairs.Tie as tie
 
 abbrev Inv-loop : tie.InvT-loop
-Inv-loop members rounds n i₀ i = i ≤ 1024
+Inv-loop keys values key-index next-value rounds first second n i₀ i = i ≤ 1024
 
 abbrev μ-loop : tie.MeasureT-loop
-μ-loop members rounds n i₀ i = 1024 - i
+μ-loop keys values key-index next-value rounds first second n i₀ i = 1024 - i
 
-slice-aggregate-iter : tie.Need-slice-aggregate-iter Inv-loop μ-loop
-slice-aggregate-iter c = search needs
+slice-aggregate-om-iter : tie.Need-slice-aggregate-om-iter Inv-loop μ-loop
+slice-aggregate-om-iter c = search needs
 
-slice-aggregate-iter-2 : tie.Need-slice-aggregate-iter-2 Inv-loop μ-loop
-slice-aggregate-iter-2 c = search needs
+slice-aggregate-om-iter-2 : tie.Need-slice-aggregate-om-iter-2 Inv-loop μ-loop
+slice-aggregate-om-iter-2 c = search needs
 
-iter-requires : tie.Need-iter-requires Inv-loop μ-loop
-iter-requires c κs = search needs
+om-iter-requires : tie.Need-om-iter-requires Inv-loop μ-loop
+om-iter-requires c κs = search needs
 
-cast-n : tie.Need-cast-n Inv-loop μ-loop
-cast-n c = search needs
+array-read-n : tie.Need-array-read-n Inv-loop μ-loop
+array-read-n c = search needs
 
 slice-aggregate-write-all : tie.Need-slice-aggregate-write-all Inv-loop μ-loop
 slice-aggregate-write-all c = search needs
@@ -64,10 +64,10 @@ print-pairs-spec =
     (tie.spec
     Inv-loop
     μ-loop
-    slice-aggregate-iter
-    slice-aggregate-iter-2
-    iter-requires
-    cast-n
+    slice-aggregate-om-iter
+    slice-aggregate-om-iter-2
+    om-iter-requires
+    array-read-n
     slice-aggregate-write-all
     write-all-requires
     loop-holds

@@ -4,8 +4,8 @@ use borrow.Author.Needs.{needs}
 use Rattle.replay.proofs.replay.Statement.{statement}
 use Rattle.replay.proofs.replay.Tie as tie
 
-new-requires : tie.Need-new-requires
-new-requires c κs = search needs
+om-new-requires : tie.Need-om-new-requires
+om-new-requires c κs = search needs
 
 run-requires : tie.Need-run-requires
 run-requires c κs = search needs
@@ -21,9 +21,12 @@ same-length-3 c = search needs
 
 returns : tie.Need-returns
 returns c =
-    played (c .before .before .before .before .before .before .before .before .before .before .before .before .before .before .before .before .args .calls .now) (c .before .before .before .before .before .before .before .before .before .before .before .before .before .before .before .before .args .outs .now) (c .before .before .before .before .before .before .before .before .before .before .before .before .before .before .before .before .args .outs2 .now) (c .before .before .before .before .before .before .before .before .before .before .before .before .before .before .before .before .args .marks .now) (c .before .before .before .before .before .before .before .before .before .before .before .before .before .before .before .before .args .answers .now) (c .before .before .before .before .before .before .run .last .1 .1 .0) (c .before .before .before .before .before .before .run .last .1 .1 .1 .0) (c .before .before .before .before .before .before .run .last .1 .1 .1 .1 .1 .0)
-    (c .before .before .before .before .before .before .before .before .before .before .new .result) (c .before .before .before .before .before .before .run .result .map) (c .before .before .before .before .before .before .run .result .ran) (c .before .before .before .before .before .before .run .ensures) (c .before .before .before .before .before .before .before .before .before .before .new .ensures .0) (c .before .before .before .before .before .before .before .before .before .before .new .ensures .1)
+    let ran = c .before .before .before .before .before .before in
+    let made = ran .before .before .before .before .before .before .before .before .before .before .before .before .before .before .before .before .before .before in
+    let s = made .before .before .before .before .before .before .before .before .before .before .before .before .before .before .before .before .before .before .before .before in
+    (_, played (s .args .calls .now) (s .args .outs .now) (s .args .outs2 .now) (s .args .marks .now) (s .args .answers .now) _ _ _ _ _ _ (ran .run .ensures) (made .om-new .ensures .0) (made .om-new .ensures .1))
 
 pub replay-spec : {M : Type 1} → statement M
 replay-spec =
-    tie.close (tie.spec new-requires run-requires same-length same-length-2 same-length-3 returns)
+    tie.close
+    (tie.spec om-new-requires run-requires same-length same-length-2 same-length-3 returns)

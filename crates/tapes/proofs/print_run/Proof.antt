@@ -27,7 +27,7 @@ returns : tie.Need-returns
 returns c =
     let printed = c .before .before in
     let played = printed .before .before .before .before .before .before .before .before .before .before .before in
-    held-as (printed .print-left .ensures) (played-left (played .replay .ensures))
+    held-as (printed .print-left .ensures) (played-left (played .replay .ensures .1))
 
 pub print-run-spec : {M : Type 1} → statement M
 print-run-spec =

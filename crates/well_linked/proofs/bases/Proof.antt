@@ -7,7 +7,7 @@ use borrow.Author.Needs.{needs}
 use lib.ListN.{length, set, length-set}
 use lib.Seq.{getD-set-same, getD-set-other}
 use Rattle.links.proofs.Paths.{same-or-not}
-use Rattle.multimap.specs.Map.{at}
+use Rattle.links.specs.Stores.{at}
 use Rattle.well_linked.proofs.bases.Statement.{statement}
 use Rattle.well_linked.proofs.bases.Tie as tie
 
@@ -43,7 +43,9 @@ loop-again c =
     let l = c .before .loop in (
       omega arith,
       length-set (l .out) (l .k) (1024 + l .k) ∙ l .inv .1,
-      λ j h. ⊎-elim (λ (e : j ≡ l .k). ap (at (set (l .out) (l .k) (1024 + l .k))) e ∙ getD-set-same (l .out) (l .k) (1024 + l .k) 0 (omega arith) ∙ ap (λ (i : ℕ). 1024 + i) (sym e))
+      λ j h. ⊎-elim
+          (λ (e : j ≡ l .k). ap (at (set (l .out) (l .k) (1024 + l .k))) e
+          ∙ getD-set-same (l .out) (l .k) (1024 + l .k) 0 (omega arith) ∙ ap (λ (i : ℕ). 1024 + i) (sym e))
           (λ (e : j ≢ l .k). getD-set-other (l .out) (l .k) j (1024 + l .k) 0 e ∙ l .inv .2 j (omega arith)) (same-or-not j (l .k)),
     )
 

@@ -3,7 +3,7 @@ use Prim.Native.Nat.{_-_}
 use native.Mathlib.Omega.{arith}
 use borrow.Author.Needs.{needs}
 use lib.ListN.{length}
-use Rattle.multimap.specs.Map.{at}
+use Rattle.links.specs.Stores.{at}
 use Rattle.well_linked.proofs.Ways.{Going, going-none, next-fits, going-one, going-off, going-all, last}
 use Rattle.well_linked.proofs.both_ways.Statement.{statement}
 use Rattle.well_linked.proofs.both_ways.Tie as tie

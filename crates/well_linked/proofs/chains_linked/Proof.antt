@@ -10,22 +10,23 @@ bases-requires : tie.Need-bases-requires
 bases-requires c κs = search needs
 
 follow-chains-requires : tie.Need-follow-chains-requires
-follow-chains-requires c κs = (c .before .before .before .pre .0, begun (c .before .before .bases .result) (search needs) (c .before .before .bases .ensures))
+follow-chains-requires c κs =
+    let made = c .before .before .before in
+    (made .before .pre, search needs, begun (made .bases .result) (search needs) (made .bases .ensures))
 
 returns : tie.Need-returns
-returns c =
-    let s = c .before .before .before .before .before in
-    λ w. c .before .follow-chains .ensures .no (not-true _ (c .if1 .taken)) (recorded-chains (s .args .m) (s .pre .1) (s .args .used) (s .pre .2) w)
+returns c = λ w. c .before .follow-chains .ensures .no (not-true _ (c .if1 .taken)) (recorded-chains w)
 
 ends-meet-requires : tie.Need-ends-meet-requires
-ends-meet-requires c κs = c .before .follow-chains .ensures .yes (not-false _ (c .if1 .left)) .fits
+ends-meet-requires c κs =
+    let test = c .before .before in
+    test .before .follow-chains .ensures .yes (not-false _ (test .if1 .left)) .fits
 
 returns-2 : tie.Need-returns-2
 returns-2 c =
-    let s = c .before .before .before .before .before .before in
-    let w = c .before .before .follow-chains .ensures .yes (not-false _ (c .before .if1 .left)) in
-    decides-map (c .ends-meet .result)
-    (recorded-so (s .args .m) (s .pre .1) (s .args .used) (s .pre .2) _ _ w) (ends-so (s .args .m) (s .pre .1) (s .args .used) (s .pre .2) _ _ w) (c .ends-meet .ensures)
+    let test = c .before .before .before in
+    let w = test .before .follow-chains .ensures .yes (not-false _ (test .if1 .left)) in
+    decides-map (c .ends-meet .result) (recorded-so w) (ends-so w) (c .ends-meet .ensures)
 
 pub chains-linked-spec : {M : Type 1} → statement M
 chains-linked-spec =

@@ -1,29 +1,53 @@
--- `well_linked::ends_meet` meets its contract: the chains before k are closed. Assumes nothing.
+-- `well_linked::ends_meet` meets its contract: the chains before `key` are closed. Assumes nothing.
 use Prim.Native.Nat.{ℕ, _-_, _≤_, _<_}
-use mathlib.Core.Path.{_≡_}
-use mathlib.Core.Bool.{true, false}
 use mathlib.Core.Logic.{⊎-elim}
 use native.Mathlib.Omega.{arith}
 use borrow.Author.Count.{below-more}
 use borrow.Author.Needs.{needs}
-use lib.ListN.{getD}
 use Rattle.index.proofs.Agree.{true-false}
-use Rattle.multimap.specs.Map.{at, valueAt}
-use Rattle.well_linked.specs.Chains.{End}
+use Rattle.links.specs.Stores.{at}
+use Rattle.well_linked.specs.Chains.{Used, End, Ends}
 use Rattle.well_linked.proofs.ends_meet.Statement.{statement}
 use Rattle.well_linked.proofs.ends_meet.Tie as tie
 
 abbrev Inv-loop : tie.InvT-loop
-Inv-loop used tail many next-index previous-index length k₀ k = (k ≤ 256) × ((j : ℕ) → j < k → getD used j false ≡ true → End (valueAt next-index) (valueAt previous-index) (at length) tail many j)
+Inv-loop lengths next-index previous-index used tail many key₀ key =
+    (key ≤ 256) × ((j : ℕ) → j < key → Used used j → End (at next-index) (at previous-index) (at lengths) tail many j)
 
 abbrev μ-loop : tie.MeasureT-loop
-μ-loop used tail many next-index previous-index length k₀ k = 256 - k
+μ-loop lengths next-index previous-index used tail many key₀ key = 256 - key
+
+-- in a turn whose member place is in use
+module _ (c : tie.Then1 Inv-loop μ-loop) where
+  abbrev s : tie.Start Inv-loop μ-loop
+  s = c .before .before .before .before
+
+  abbrev key : ℕ
+  key = c .before .before .before .loop .key
+
+  abbrev n : ℕ → ℕ
+  n = at (s .args .next-index .now)
+
+  abbrev p : ℕ → ℕ
+  p = at (s .args .previous-index .now)
+
+  abbrev long : ℕ → ℕ
+  long = at (s .args .lengths .now)
+
+  end-fits : at (s .args .tail .now) key < 1280
+  end-fits = s .pre key (omega arith)
+
+  end : Ends n p long (s .args .used .now) (s .args .tail .now) (s .args .many .now) → End n p long (s .args .tail .now) (s .args .many .now) key
+  end w = w key (omega arith) (c .if1 .taken)
 
 loop-holds : tie.Need-loop-holds Inv-loop μ-loop
 loop-holds c = (omega arith, λ j h. absurd (omega arith))
 
-array-read-held : tie.Need-array-read-held Inv-loop μ-loop
-array-read-held c = search needs
+cast-k : tie.Need-cast-k Inv-loop μ-loop
+cast-k c = search needs
+
+element-copy-out-held : tie.Need-element-copy-out-held Inv-loop μ-loop
+element-copy-out-held c = search needs
 
 add-base : tie.Need-add-base Inv-loop μ-loop
 add-base c = search needs
@@ -31,53 +55,53 @@ add-base c = search needs
 mul-end : tie.Need-mul-end Inv-loop μ-loop
 mul-end c = search needs
 
-array-read-end : tie.Need-array-read-end Inv-loop μ-loop
-array-read-end c = search needs
+element-copy-out-end : tie.Need-element-copy-out-end Inv-loop μ-loop
+element-copy-out-end c = search needs
 
 cast-after : tie.Need-cast-after Inv-loop μ-loop
-cast-after c = search needs
+cast-after c = record { fits = omega (arith, end-fits (c .before)) }
 
 mul-after : tie.Need-mul-after Inv-loop μ-loop
-mul-after c = record { fits = omega (arith, c .before .before .before .before .before .before .pre (c .before .before .loop .k) (omega arith)) }
+mul-after c = record { fits = omega (arith, end-fits (c .before)) }
 
-array-copy-out-after : tie.Need-array-copy-out-after Inv-loop μ-loop
-array-copy-out-after c = c .before .before .before .before .before .before .pre (c .before .before .loop .k) (omega arith)
-
-cast-then : tie.Need-cast-then Inv-loop μ-loop
-cast-then c = search needs
+element-copy-out-after : tie.Need-element-copy-out-after Inv-loop μ-loop
+element-copy-out-after c = end-fits (c .before)
 
 returns : tie.Need-returns Inv-loop μ-loop
-returns c = λ w. c .if2 .taken (w (c .before .before .before .before .before .loop .k) (omega arith) (c .before .before .before .if1 .taken) .next)
+returns c = λ w. c .if2 .taken (end (c .before .before .before) w .next)
+
+cast-before : tie.Need-cast-before Inv-loop μ-loop
+cast-before c = search needs
 
 mul-before : tie.Need-mul-before Inv-loop μ-loop
 mul-before c = search needs
 
-array-copy-out-before : tie.Need-array-copy-out-before Inv-loop μ-loop
-array-copy-out-before c = search needs
+element-copy-out-before : tie.Need-element-copy-out-before Inv-loop μ-loop
+element-copy-out-before c = search needs
 
 returns-2 : tie.Need-returns-2 Inv-loop μ-loop
-returns-2 c = λ w. c .if3 .taken (w (c .before .before .before .before .before .before .before .before .loop .k) (omega arith) (c .before .before .before .before .before .before .if1 .taken) .prev)
+returns-2 c = λ w. c .if3 .taken (end (c .before .before .before .before .before) w .prev)
 
 mul-long : tie.Need-mul-long Inv-loop μ-loop
 mul-long c = search needs
 
-array-read-long : tie.Need-array-read-long Inv-loop μ-loop
-array-read-long c = search needs
+element-copy-out-long : tie.Need-element-copy-out-long Inv-loop μ-loop
+element-copy-out-long c = search needs
 
 mul-rounds : tie.Need-mul-rounds Inv-loop μ-loop
 mul-rounds c = search needs
 
-array-read-rounds : tie.Need-array-read-rounds Inv-loop μ-loop
-array-read-rounds c = search needs
+element-copy-out-rounds : tie.Need-element-copy-out-rounds Inv-loop μ-loop
+element-copy-out-rounds c = search needs
 
 returns-3 : tie.Need-returns-3 Inv-loop μ-loop
-returns-3 c = λ w. c .if4 .taken (w (c .before .before .before .before .before .before .before .before .before .loop .k) (omega arith) (c .before .before .before .before .before .before .before .if1 .taken) .size)
+returns-3 c = λ w. c .if4 .taken (end (c .before .before .before .before .before .before .before .before) w .size)
 
 returns-4 : tie.Need-returns-4 Inv-loop μ-loop
-returns-4 c = λ w. omega (arith, c .if5 .taken, w (c .before .before .before .before .before .before .before .before .before .before .loop .k) (omega arith) (c .before .before .before .before .before .before .before .before .if1 .taken) .some)
+returns-4 c = λ w. omega (arith, c .if5 .taken, end (c .before .before .before .before .before .before .before .before .before) w .some)
 
-add-k : tie.Need-add-k Inv-loop μ-loop
-add-k c = search needs
+add-key : tie.Need-add-key Inv-loop μ-loop
+add-key c = search needs
 
 loop-less : tie.Need-loop-less Inv-loop μ-loop
 loop-less c = search needs
@@ -85,8 +109,8 @@ loop-less c = search needs
 loop-again : tie.Need-loop-again Inv-loop μ-loop
 loop-again c = (
   omega arith,
-  below-more _ _ (c .before .before .loop .inv .1)
-      (λ u. ⊎-elim (λ w. record { next = w .3 .left; prev = w .6 .left; size = w .7 .left; some = omega (arith, w .8 .left) })
+  below-more _ _ (c .before .before .before .loop .inv .1)
+      (λ u. ⊎-elim (λ w. record { next = w .3 .left; prev = w .5 .left; size = w .8 .left; some = omega (arith, w .9 .left) })
       (λ e. absurd (true-false u (e .left))) (c .if1 .came)),
 )
 
@@ -100,25 +124,26 @@ ends-meet-spec =
     Inv-loop
     μ-loop
     loop-holds
-    array-read-held
+    cast-k
+    element-copy-out-held
     add-base
     mul-end
-    array-read-end
+    element-copy-out-end
     cast-after
     mul-after
-    array-copy-out-after
-    cast-then
+    element-copy-out-after
     returns
+    cast-before
     mul-before
-    array-copy-out-before
+    element-copy-out-before
     returns-2
     mul-long
-    array-read-long
+    element-copy-out-long
     mul-rounds
-    array-read-rounds
+    element-copy-out-rounds
     returns-3
     returns-4
-    add-k
+    add-key
     loop-less
     loop-again
     returns-5)

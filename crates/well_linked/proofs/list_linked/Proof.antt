@@ -9,6 +9,21 @@ use Rattle.well_linked.proofs.Linking.{used-refused, used-below, freed-
 use Rattle.well_linked.proofs.list_linked.Statement.{statement}
 use Rattle.well_linked.proofs.list_linked.Tie as tie
 
+abbrev start : tie.After-mark → tie.Start
+start c = c .before .before .before .before .before .before .before .before .before .before
+
+abbrev list : tie.Start → Places
+list s = listOf (s .args .next .now) (s .args .previous .now) (s .args .root) (s .args .counts .now)
+
+element-copy-out-len : tie.Need-element-copy-out-len
+element-copy-out-len c = search needs
+
+element-copy-out-fresh : tie.Need-element-copy-out-fresh
+element-copy-out-fresh c = search needs
+
+element-copy-out-free : tie.Need-element-copy-out-free
+element-copy-out-free c = search needs
+
 returns : tie.Need-returns
 returns c = search needs
 
@@ -29,8 +44,8 @@ mark-requires c κs = search needs
 
 returns-3 : tie.Need-returns-3
 returns-3 c =
-    let a = c .before .before .before .before .before .before .before .before .before .args in
-    used-refused (listOf (a .next .now) (a .previous .now) (a .root) (a .len) (a .fresh) (a .free)) 1024 (c .before .before .mark .ensures) (not-true _ (c .if3 .taken))
+    let used = c .before .before in
+    used-refused (list (start used)) 1024 (used .mark .ensures) (not-true _ (c .if3 .taken))
 
 slice-aggregate-mark-2 : tie.Need-slice-aggregate-mark-2
 slice-aggregate-mark-2 c = search needs
@@ -40,33 +55,36 @@ mark-requires-2 c κs = search needs
 
 returns-4 : tie.Need-returns-4
 returns-4 c =
-    let a = c .before .before .before .before .before .before .before .before .before .before .before .before .before .args in
-    let used = c .before .before .before .before in
-    freed-refused (listOf (a .next .now) (a .previous .now) (a .root) (a .len) (a .fresh) (a .free)) 1024
-    (used .before .before .mark .ensures) (not-false _ (used .if3 .left)) (c .before .before .mark2 .ensures) (not-true _ (c .if4 .taken))
+    let more = c .before .before .before .before in
+    let used = more .before .before in
+    freed-refused (list (start used)) 1024
+    (used .mark .ensures) (not-false _ (more .if3 .left)) (c .before .before .mark2 .ensures) (not-true _ (c .if4 .taken))
 
 both-ways-requires : tie.Need-both-ways-requires
 both-ways-requires c κs =
-    let a = c .before .before .before .before .before .before .before .before .before .before .before .before .before .args in
-    let used = c .before .before .before .before in
-    let below =
-    used-below (listOf (a .next .now) (a .previous .now) (a .root) (a .len) (a .fresh) (a .free)) 1024 (used .before .before .mark .ensures) (not-false _ (used .if3 .left)) in
+    let more = c .before .before .before .before in
+    let used = more .before .before in
+    let below = used-below (list (start used)) 1024 (used .mark .ensures) (not-false _ (more .if3 .left)) in
     (omega arith, search needs, λ q h. omega (arith, below q h))
 
 returns-5 : tie.Need-returns-5
 returns-5 c =
-    let a = c .before .before .before .before .before .before .before .before .before .before .before .before .before .before .args in
-    let l : Places = listOf (a .next .now) (a .previous .now) (a .root) (a .len) (a .fresh) (a .free) in
-    let freed = c .before in
-    let used = freed .before .before .before .before in
+    let last = c .before in
+    let freed = last .before .before in
+    let more = freed .before .before in
+    let used = more .before .before in
+    let l : Places = list (start used) in
     decides-map (c .both-ways .result)
-    (linked-so l 1024 (used .before .before .mark .ensures) (not-false _ (used .if3 .left)) (freed .before .before .mark2 .ensures) (not-false _ (freed .if4 .left)) (omega arith) (omega arith))
-    (λ (g : Linked l). g .path) (c .both-ways .ensures)
+    (linked-so l 1024 (used .mark .ensures) (not-false _ (more .if3 .left)) (freed .mark2 .ensures) (not-false _ (last .if4 .left))
+    (omega arith) (omega arith)) (λ (g : Linked l). g .path) (c .both-ways .ensures)
 
 pub list-linked-spec : {M : Type 1} → statement M
 list-linked-spec =
     tie.close
     (tie.spec
+    element-copy-out-len
+    element-copy-out-fresh
+    element-copy-out-free
     returns
     returns-2
     mul-first

@@ -4,13 +4,14 @@ use native.Mathlib.Nat.{sub-zero}
 use native.Mathlib.Omega.{arith}
 use borrow.Author.Needs.{needs}
 use Rattle.links.specs.Path.{walk}
-use Rattle.multimap.specs.Map.{at}
+use Rattle.links.specs.Stores.{at}
 use Rattle.well_linked.proofs.Marking.{Marking, walk-more, walk-done, marking-none, marking-all, marking-one, marking-far, marking-seen}
 use Rattle.well_linked.proofs.mark.Statement.{statement}
 use Rattle.well_linked.proofs.mark.Tie as tie
 
 abbrev Inv-loop : tie.InvT-loop
-Inv-loop next from many fresh met₀ here₀ i₀ met here i = (i ≤ many) × Marking fresh (walk (at next) from many) met₀ met (walk (at next) here (many - i))
+Inv-loop next from many fresh met₀ here₀ i₀ met here i =
+    (i ≤ many) × Marking fresh (walk (at next) from many) met₀ met (walk (at next) here (many - i))
 
 abbrev μ-loop : tie.MeasureT-loop
 μ-loop next from many fresh met₀ here₀ i₀ met here i = many - i
@@ -63,7 +64,8 @@ loop-again : tie.Need-loop-again Inv-loop μ-loop
 loop-again c =
     let a = c .before .before .before .before .before .before .args in
     let l = c .before .before .before .before .before .loop in
-    (omega arith, marking-one (l .inv .1) (walk-more (at (a .next .now)) (l .here) (a .many) (l .i) (omega arith)) (omega arith) (omega arith) (c .before .if2 .left))
+    let more = walk-more (at (a .next .now)) (l .here) (a .many) (l .i) (omega arith) in
+    (omega arith, marking-one (l .inv .1) more (omega arith) (omega arith) (c .before .if2 .left))
 
 same-length-3 : tie.Need-same-length-3 Inv-loop μ-loop
 same-length-3 c = search needs

@@ -1,11 +1,12 @@
--- `lines::answering::print_members` meets its contract: each arm prints its case. Assumes nothing.
+-- `lines::answering::print_members` meets its contract: a count is printed with what it counts. Assumes nothing.
 use mathlib.Core.Path.{sym, ap}
 use mathlib.Core.List.{[]}
 use Rattle.steps.specs.Call.{lend}
-use Rattle.lines.specs.Answer.{textOf, keyed}
+use Rattle.answers.specs.Answers.{answerOf}
+use Rattle.answers.specs.declared.Answer.{Answer}
+use Rattle.lines.specs.Answer.{textOf, kept, keyed}
 use Rattle.lines.proofs.Sayings.{said-as}
-use Rattle.multimap.specs.Answers.{countedOf}
-use Rattle.multimap.specs.declared.Counted.{Counted}
+use Rattle.lines.proofs.Texts.{uncounted}
 use borrow.Author.Needs.{needs}
 use Rattle.lines.proofs.answering.print_members.Statement.{statement}
 use Rattle.lines.proofs.answering.print_members.Tie as tie
@@ -13,40 +14,36 @@ use Rattle.lines.proofs.answering.print_members.Tie as tie
 enum-known-answer : tie.Need-enum-known-answer
 enum-known-answer c = search needs
 
-print-keys-requires : tie.Need-print-keys-requires
-print-keys-requires c κs = search needs
-
-enum-told : tie.Need-enum-told
-enum-told c = search needs
-
-print-refused-requires : tie.Need-print-refused-requires
-print-refused-requires c κs = search needs
+print-answer-requires : tie.Need-print-answer-requires
+print-answer-requires c κs = search needs
 
 same-length : tie.Need-same-length
 same-length c = search needs
 
 returns : tie.Need-returns
 returns c =
-    let s = c .before .before .before .before .before .before .before .before .before in
-    said-as (c .before .before .print-keys .ensures) (sym (ap (λ (a : Counted). textOf (keyed (lend (s .args .members .now) [])) (countedOf a)) (c .before .before .before .before .before .answer .given .1)))
+    let s = c .before .before .before .before .before .before .before in
+    said-as (c .before .before .print-answer .ensures) (uncounted (s .args .answer) (kept (lend [] [])) (keyed (lend (s .args .members .now) [])) (c .before .before .before .before .match .keys2))
+
+print-keys-requires : tie.Need-print-keys-requires
+print-keys-requires c κs = search needs
 
 same-length-2 : tie.Need-same-length-2
 same-length-2 c = search needs
 
 returns-2 : tie.Need-returns-2
 returns-2 c =
-    let s = c .before .before .before .before .before .before .before .before in
-    said-as (c .before .before .print-refused .ensures) (sym (ap (λ (a : Counted). textOf (keyed (lend (s .args .members .now) [])) (countedOf a)) (c .before .before .before .before .enum-told .given .1)))
+    let s = c .before .before .before .before .before .before .before .before .before in
+    said-as (c .before .before .print-keys .ensures) (sym (ap (λ (a : Answer). textOf (keyed (lend (s .args .members .now) [])) (answerOf a)) (c .before .before .before .before .before .answer .given .1)))
 
 pub print-members-spec : {M : Type 1} → statement M
 print-members-spec =
     tie.close
     (tie.spec
     enum-known-answer
-    print-keys-requires
-    enum-told
-    print-refused-requires
+    print-answer-requires
     same-length
     returns
+    print-keys-requires
     same-length-2
     returns-2)

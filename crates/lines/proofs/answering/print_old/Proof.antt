@@ -1,50 +1,49 @@
--- `lines::answering::print_old` meets its contract. Assumes nothing.
-use mathlib.Core.Path.{refl, sym}
-use native.Mathlib.Omega.{arith}
-use lib.ListN.{length-take}
-use lib.Seq.{length-take-le}
-use Rattle.lines.proofs.Runs.{after-long}
-use Rattle.lines.proofs.Sayings.{values-said}
+-- `lines::answering::print_old` meets its contract: a count is printed with what it counts. Assumes nothing.
+use mathlib.Core.Path.{sym, ap}
+use mathlib.Core.List.{[]}
+use Rattle.steps.specs.Call.{lend}
+use Rattle.answers.specs.Answers.{answerOf}
+use Rattle.answers.specs.declared.Answer.{Answer}
+use Rattle.lines.specs.Answer.{textOf, kept, old}
+use Rattle.lines.proofs.Sayings.{said-as}
+use Rattle.lines.proofs.Texts.{uncounted}
 use borrow.Author.Needs.{needs}
 use Rattle.lines.proofs.answering.print_old.Statement.{statement}
 use Rattle.lines.proofs.answering.print_old.Tie as tie
 
-slice-aggregate-print-number : tie.Need-slice-aggregate-print-number
-slice-aggregate-print-number c = search needs
+enum-known-answer : tie.Need-enum-known-answer
+enum-known-answer c = search needs
 
-print-number-requires : tie.Need-print-number-requires
-print-number-requires c κs = search needs
-
-least-requires : tie.Need-least-requires
-least-requires c κs = search needs
-
-slice-aggregate-put-values : tie.Need-slice-aggregate-put-values
-slice-aggregate-put-values c = sym (length-take-le (c .before .before .least .result) (c .before .before .before .before .before .before .before .before .before .before .args .rounds .now) (omega (arith, c .before .before .least .ensures)))
-
-put-values-requires : tie.Need-put-values-requires
-put-values-requires c κs =
-    let w = c .before .before .before .before .before in
-    let s = c .before .before .before .before .before .before .before .before .before .before in
-    omega (arith, s .pre, w .print-number .ensures .put .next, w .print-number .kept .0, length-take (c .before .before .least .result) (s .args .rounds .now), after-long 32 (s .args .n))
+print-answer-requires : tie.Need-print-answer-requires
+print-answer-requires c κs = search needs
 
 same-length : tie.Need-same-length
 same-length c = search needs
 
 returns : tie.Need-returns
 returns c =
-    let w = c .before .before .before .before .before .before .before .before in
-    let s = c .before .before .before .before .before .before .before .before .before .before .before .before .before in
-    let n = w .print-number .ensures .put .next in
-    values-said (w .print-number .ensures) (c .before .before .put-values .ensures) (s .args .n) (s .args .rounds .now) (c .before .before .before .before .before .least .ensures) refl (s .pre .1) (omega (arith, n, after-long 32 (s .args .n)))
+    let s = c .before .before .before .before .before .before .before in
+    said-as (c .before .before .print-answer .ensures) (uncounted (s .args .answer) (kept (lend [] [])) (old (lend (s .args .rounds .now) [])) (c .before .before .before .before .match .keys2))
+
+print-rounds-requires : tie.Need-print-rounds-requires
+print-rounds-requires c κs = search needs
+
+same-length-2 : tie.Need-same-length-2
+same-length-2 c = search needs
+
+returns-2 : tie.Need-returns-2
+returns-2 c =
+    let s = c .before .before .before .before .before .before .before .before .before in
+    said-as (c .before .before .print-rounds .ensures) (sym (ap (λ (a : Answer). textOf (old (lend (s .args .rounds .now) [])) (answerOf a)) (c .before .before .before .before .before .answer .given .1)))
 
 pub print-old-spec : {M : Type 1} → statement M
 print-old-spec =
     tie.close
     (tie.spec
-    slice-aggregate-print-number
-    print-number-requires
-    least-requires
-    slice-aggregate-put-values
-    put-values-requires
+    enum-known-answer
+    print-answer-requires
     same-length
-    returns)
+    returns
+    print-rounds-requires
+    same-length-2
+    returns-2)

@@ -6,18 +6,26 @@ use borrow.Author.Needs.{needs}
 use Rattle.lines.proofs.calling.adds.Statement.{statement}
 use Rattle.lines.proofs.calling.adds.Tie as tie
 
-append-requires : tie.Need-append-requires
-append-requires c κs = search needs
+om-append-requires : tie.Need-om-append-requires
+om-append-requires c κs = search needs
 
-print-added-requires : tie.Need-print-added-requires
-print-added-requires c κs = search needs
+read-requires : tie.Need-read-requires
+read-requires c κs = search needs
+
+print-answer-requires : tie.Need-print-answer-requires
+print-answer-requires c κs = search needs
 
 same-length : tie.Need-same-length
 same-length c = search needs
 
 returns : tie.Need-returns
 unfolding answerOf
-returns c = replied kept refl refl (c .before .before .before .before .before .append .ensures) (c .before .before .before .print-added .ensures)
+returns c =
+    let printed = c .before .before in
+    let read = printed .before .before in
+    let called = read .before in
+    replied kept refl refl (called .om-append .ensures) (read .read .ensures) (printed .print-answer .ensures)
 
 pub adds-spec : {M : Type 1} → statement M
-adds-spec = tie.close (tie.spec append-requires print-added-requires same-length returns)
+adds-spec =
+    tie.close (tie.spec om-append-requires read-requires print-answer-requires same-length returns)

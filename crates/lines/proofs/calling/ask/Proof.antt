@@ -1,14 +1,21 @@
 -- `lines::calling::ask` meets its contract: each arm is a form of a line. Assumes nothing.
-use mathlib.Core.Path.{ap, _∙_}
-use mathlib.Core.List.{List, map}
 use Prim.Native.Nat.{ℕ}
+use mathlib.Core.Path.{refl, ap, _∙_}
+use mathlib.Core.List.{List, map}
 use native.Mathlib.Omega.{arith}
 use lib.ListN.{length, length-drop}
+use Rattle.multimap.specs.Arrays.{Arrays, arrays}
 use Rattle.parsing.specs.Line.{keeps, markOf}
-use Rattle.lines.proofs.Calls.{replied-as, asked, keeps-short, marks-part}
+use Rattle.lines.proofs.Calls.{replied-as, replied-bad, asked, keeps-short, marks-part}
 use borrow.Author.Needs.{needs}
 use Rattle.lines.proofs.calling.ask.Statement.{statement}
 use Rattle.lines.proofs.calling.ask.Tie as tie
+
+abbrev given : tie.Start → Arrays
+given s =
+    arrays (s .args .keys .now) (s .args .lengths .now) (s .args .next-key .now) (s .args .previous-key .now) (s .args .values .now)
+    (s .args .key-index .now) (s .args .next-value .now) (s .args .previous-value .now) (s .args .next-index .now)
+    (s .args .previous-index .now) (s .args .index .now) (s .args .members .now) (s .args .rounds .now) (s .args .taken .now)
 
 enum-known-request : tie.Need-enum-known-request
 enum-known-request c = search needs
@@ -32,13 +39,13 @@ enum-told : tie.Need-enum-told
 enum-told c = search needs
 
 front-requires : tie.Need-front-requires
-front-requires c κs = search needs
+front-requires c κs = let s = c .before .before .before .before .before .before .before .before .before .before .before .before .before .before .before .before .before .before .before in (s .pre .0, s .pre .1)
 
 enum-told-2 : tie.Need-enum-told-2
 enum-told-2 c = search needs
 
 back-requires : tie.Need-back-requires
-back-requires c κs = search needs
+back-requires c κs = let s = c .before .before .before .before .before .before .before .before .before .before .before .before .before .before .before .before .before .before .before in (s .pre .0, s .pre .1)
 
 enum-told-3 : tie.Need-enum-told-3
 enum-told-3 c = search needs
@@ -57,12 +64,12 @@ part-bytes-end c = search needs
 
 keeps-requires : tie.Need-keeps-requires
 keeps-requires c κs =
-    let s = c .before .before .before .before .before .before .before in
-    let l = s .args .line .now in
-    let n = c .before .before .least in (
+    let n = c .before .before .before .before .before .before .before .before .before .before .before .before .before .before .before .before in
+    let s = n .before .before .before .before .before in
+    let l = s .args .line .now in (
       s .pre .0,
       s .pre .1,
-      omega (arith, keeps-short l _ (asked l (s .pre .2) (c .before .before .before .enum-told3 .given .1)), ap length (marks-part l (n .result) (n .ensures)), length-drop 2 l),
+      omega (arith, keeps-short l _ (asked l (s .pre .2) (n .before .enum-told3 .given .1)), ap length (marks-part l (n .least .result) (n .least .ensures)), length-drop 2 l),
     )
 
 enum-told-4 : tie.Need-enum-told-4
@@ -74,86 +81,109 @@ lists-requires c κs = search needs
 enum-told-5 : tie.Need-enum-told-5
 enum-told-5 c = search needs
 
-members-requires : tie.Need-members-requires
-members-requires c κs = search needs
+members-line-requires : tie.Need-members-line-requires
+members-line-requires c κs = search needs
 
 enum-told-6 : tie.Need-enum-told-6
 enum-told-6 c = search needs
 
-bad-requires : tie.Need-bad-requires
-bad-requires c κs = search needs
+slice-aggregate-print-word : tie.Need-slice-aggregate-print-word
+slice-aggregate-print-word c = search needs
+
+print-word-requires : tie.Need-print-word-requires
+print-word-requires c κs = search needs
 
 same-length : tie.Need-same-length
 same-length c = search needs
 
 returns : tie.Need-returns
 returns c =
-    let s = c .before .before .before .before .before .before .before .before .before in
-    replied-as (s .args .m) (c .before .before .adds .ensures) (asked (s .args .line .now) (s .pre .2) (c .before .before .before .before .before .request .given .1))
+    let done = c .before .before in
+    let told = done .before .before .before .before .before .before .before .before .before .before .before .before .before .before .before .before .before in
+    let s = told .before .before .before .before in
+    replied-as (given s) (done .adds .ensures) (asked (s .args .line .now) (s .pre .2) (told .request .given .1))
 
 same-length-2 : tie.Need-same-length-2
 same-length-2 c = search needs
 
 returns-2 : tie.Need-returns-2
 returns-2 c =
-    let s = c .before .before .before .before .before .before .before .before .before in
-    replied-as (s .args .m) (c .before .before .inserts .ensures) (asked (s .args .line .now) (s .pre .2) (c .before .before .before .before .before .request2 .given .1))
+    let done = c .before .before in
+    let told = done .before .before .before .before .before .before .before .before .before .before .before .before .before .before .before .before .before in
+    let s = told .before .before .before .before in
+    replied-as (given s) (done .inserts .ensures) (asked (s .args .line .now) (s .pre .2) (told .request2 .given .1))
 
 same-length-3 : tie.Need-same-length-3
 same-length-3 c = search needs
 
 returns-3 : tie.Need-returns-3
 returns-3 c =
-    let s = c .before .before .before .before .before .before .before .before .before in
-    replied-as (s .args .m) (c .before .before .removes .ensures) (asked (s .args .line .now) (s .pre .2) (c .before .before .before .before .before .request3 .given .1))
+    let done = c .before .before in
+    let told = done .before .before .before .before .before .before .before .before .before .before .before .before .before .before .before .before .before in
+    let s = told .before .before .before .before in
+    replied-as (given s) (done .removes .ensures) (asked (s .args .line .now) (s .pre .2) (told .request3 .given .1))
 
 same-length-4 : tie.Need-same-length-4
 same-length-4 c = search needs
 
 returns-4 : tie.Need-returns-4
 returns-4 c =
-    let s = c .before .before .before .before .before .before .before .before in
-    replied-as (s .args .m) (c .before .before .front .ensures) (asked (s .args .line .now) (s .pre .2) (c .before .before .before .before .enum-told .given .1))
+    let done = c .before .before in
+    let told = done .before .before .before .before .before .before .before .before .before .before .before .before .before .before .before .before in
+    let s = told .before .before .before .before in
+    replied-as (given s) (done .front .ensures) (asked (s .args .line .now) (s .pre .2) (told .enum-told .given .1))
 
 same-length-5 : tie.Need-same-length-5
 same-length-5 c = search needs
 
 returns-5 : tie.Need-returns-5
 returns-5 c =
-    let s = c .before .before .before .before .before .before .before .before in
-    replied-as (s .args .m) (c .before .before .back .ensures) (asked (s .args .line .now) (s .pre .2) (c .before .before .before .before .enum-told2 .given .1))
+    let done = c .before .before in
+    let told = done .before .before .before .before .before .before .before .before .before .before .before .before .before .before .before .before in
+    let s = told .before .before .before .before in
+    replied-as (given s) (done .back .ensures) (asked (s .args .line .now) (s .pre .2) (told .enum-told2 .given .1))
 
 same-length-6 : tie.Need-same-length-6
 same-length-6 c = search needs
 
 returns-6 : tie.Need-returns-6
 returns-6 c =
-    let s = c .before .before .before .before .before .before .before .before .before .before in
-    replied-as (s .args .m) (c .before .before .keeps .ensures) (ap (λ (l : List ℕ). keeps (map markOf l)) (marks-part (s .args .line .now) (c .before .before .before .before .before .least .result) (c .before .before .before .before .before .least .ensures)) ∙ asked (s .args .line .now) (s .pre .2) (c .before .before .before .before .before .before .enum-told3 .given .1))
+    let done = c .before .before in
+    let n = done .before .before .before .before .before .before .before .before .before .before .before .before .before .before .before .before .before in
+    let told = n .before in
+    let s = told .before .before .before .before in
+    replied-as (given s) (done .keeps .ensures)
+    (ap (λ (l : List ℕ). keeps (map markOf l)) (marks-part (s .args .line .now) (n .least .result) (n .least .ensures)) ∙ asked (s .args .line .now) (s .pre .2) (told .enum-told3 .given .1))
 
 same-length-7 : tie.Need-same-length-7
 same-length-7 c = search needs
 
 returns-7 : tie.Need-returns-7
 returns-7 c =
-    let s = c .before .before .before .before .before .before .before .before in
-    replied-as (s .args .m) (c .before .before .lists .ensures) (asked (s .args .line .now) (s .pre .2) (c .before .before .before .before .enum-told4 .given .1))
+    let done = c .before .before in
+    let told = done .before .before .before .before .before .before .before in
+    let s = told .before .before .before .before in
+    replied-as (given s) (done .lists .ensures (given s) (refl, refl, refl, refl, refl) (s .pre .0)) (asked (s .args .line .now) (s .pre .2) (told .enum-told4 .given .1))
 
 same-length-8 : tie.Need-same-length-8
 same-length-8 c = search needs
 
 returns-8 : tie.Need-returns-8
 returns-8 c =
-    let s = c .before .before .before .before .before .before .before .before in
-    replied-as (s .args .m) (c .before .before .members .ensures) (asked (s .args .line .now) (s .pre .2) (c .before .before .before .before .enum-told5 .given .1))
+    let done = c .before .before in
+    let told = done .before .before .before .before .before in
+    let s = told .before .before .before .before in
+    replied-as (given s) (done .members-line .ensures (given s) (refl, refl, refl) (s .pre .0)) (asked (s .args .line .now) (s .pre .2) (told .enum-told5 .given .1))
 
 same-length-9 : tie.Need-same-length-9
 same-length-9 c = search needs
 
 returns-9 : tie.Need-returns-9
 returns-9 c =
-    let s = c .before .before .before .before .before .before .before .before in
-    replied-as (s .args .m) (c .before .before .bad .ensures) (asked (s .args .line .now) (s .pre .2) (c .before .before .before .before .enum-told6 .given .1))
+    let done = c .before .before in
+    let told = done .before .before .before in
+    let s = told .before .before .before .before in
+    replied-as (given s) (replied-bad (given s) (s .pre .0) (done .print-word .ensures)) (asked (s .args .line .now) (s .pre .2) (told .enum-told6 .given .1))
 
 pub ask-spec : {M : Type 1} → statement M
 ask-spec =
@@ -178,9 +208,10 @@ ask-spec =
     enum-told-4
     lists-requires
     enum-told-5
-    members-requires
+    members-line-requires
     enum-told-6
-    bad-requires
+    slice-aggregate-print-word
+    print-word-requires
     same-length
     returns
     same-length-2

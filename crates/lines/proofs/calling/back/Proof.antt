@@ -6,18 +6,27 @@ use borrow.Author.Needs.{needs}
 use Rattle.lines.proofs.calling.back.Statement.{statement}
 use Rattle.lines.proofs.calling.back.Tie as tie
 
-pop-back-requires : tie.Need-pop-back-requires
-pop-back-requires c κs = search needs
+om-pop-back-requires : tie.Need-om-pop-back-requires
+om-pop-back-requires c κs = search needs
 
-print-popped-requires : tie.Need-print-popped-requires
-print-popped-requires c κs = search needs
+read-requires : tie.Need-read-requires
+read-requires c κs = search needs
+
+print-answer-requires : tie.Need-print-answer-requires
+print-answer-requires c κs = search needs
 
 same-length : tie.Need-same-length
 same-length c = search needs
 
 returns : tie.Need-returns
 unfolding answerOf
-returns c = replied kept refl refl (c .before .before .before .before .before .pop-back .ensures) (c .before .before .before .print-popped .ensures)
+returns c =
+    let printed = c .before .before in
+    let read = printed .before .before in
+    let called = read .before in
+    replied kept refl refl (called .om-pop-back .ensures) (read .read .ensures) (printed .print-answer .ensures)
 
 pub back-spec : {M : Type 1} → statement M
-back-spec = tie.close (tie.spec pop-back-requires print-popped-requires same-length returns)
+back-spec =
+    tie.close
+    (tie.spec om-pop-back-requires read-requires print-answer-requires same-length returns)

@@ -6,18 +6,27 @@ use borrow.Author.Needs.{needs}
 use Rattle.lines.proofs.calling.front.Statement.{statement}
 use Rattle.lines.proofs.calling.front.Tie as tie
 
-pop-front-requires : tie.Need-pop-front-requires
-pop-front-requires c κs = search needs
+om-pop-front-requires : tie.Need-om-pop-front-requires
+om-pop-front-requires c κs = search needs
 
-print-popped-requires : tie.Need-print-popped-requires
-print-popped-requires c κs = search needs
+read-requires : tie.Need-read-requires
+read-requires c κs = search needs
+
+print-answer-requires : tie.Need-print-answer-requires
+print-answer-requires c κs = search needs
 
 same-length : tie.Need-same-length
 same-length c = search needs
 
 returns : tie.Need-returns
 unfolding answerOf
-returns c = replied kept refl refl (c .before .before .before .before .before .pop-front .ensures) (c .before .before .before .print-popped .ensures)
+returns c =
+    let printed = c .before .before in
+    let read = printed .before .before in
+    let called = read .before in
+    replied kept refl refl (called .om-pop-front .ensures) (read .read .ensures) (printed .print-answer .ensures)
 
 pub front-spec : {M : Type 1} → statement M
-front-spec = tie.close (tie.spec pop-front-requires print-popped-requires same-length returns)
+front-spec =
+    tie.close
+    (tie.spec om-pop-front-requires read-requires print-answer-requires same-length returns)

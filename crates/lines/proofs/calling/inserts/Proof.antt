@@ -6,32 +6,40 @@ use borrow.Author.Needs.{needs}
 use Rattle.lines.proofs.calling.inserts.Statement.{statement}
 use Rattle.lines.proofs.calling.inserts.Tie as tie
 
-slice-aggregate-insert-all : tie.Need-slice-aggregate-insert-all
-slice-aggregate-insert-all c = search needs
+slice-aggregate-om-insert-all : tie.Need-slice-aggregate-om-insert-all
+slice-aggregate-om-insert-all c = search needs
 
-insert-all-requires : tie.Need-insert-all-requires
-insert-all-requires c κs = search needs
+om-insert-all-requires : tie.Need-om-insert-all-requires
+om-insert-all-requires c κs = search needs
 
-slice-aggregate-print-inserted : tie.Need-slice-aggregate-print-inserted
-slice-aggregate-print-inserted c = search needs
+read-requires : tie.Need-read-requires
+read-requires c κs = search needs
 
-print-inserted-requires : tie.Need-print-inserted-requires
-print-inserted-requires c κs = search needs
+slice-aggregate-print-old : tie.Need-slice-aggregate-print-old
+slice-aggregate-print-old c = search needs
+
+print-old-requires : tie.Need-print-old-requires
+print-old-requires c κs = search needs
 
 same-length : tie.Need-same-length
 same-length c = search needs
 
 returns : tie.Need-returns
 unfolding answerOf
-returns c = replied old refl refl (c .before .before .before .before .before .before .before .insert-all .ensures) (c .before .before .before .print-inserted .ensures)
+returns c =
+    let printed = c .before .before in
+    let read = printed .before .before .before in
+    let called = read .before .before in
+    replied old refl refl (called .om-insert-all .ensures) (read .read .ensures) (printed .print-old .ensures)
 
 pub inserts-spec : {M : Type 1} → statement M
 inserts-spec =
     tie.close
     (tie.spec
-    slice-aggregate-insert-all
-    insert-all-requires
-    slice-aggregate-print-inserted
-    print-inserted-requires
+    slice-aggregate-om-insert-all
+    om-insert-all-requires
+    read-requires
+    slice-aggregate-print-old
+    print-old-requires
     same-length
     returns)

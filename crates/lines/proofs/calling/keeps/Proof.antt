@@ -7,13 +7,10 @@ use lib.ListN.{length, length-map}
 use lib.Seq.{length-take-le}
 use Rattle.parsing.specs.Line.{markOf}
 use Rattle.lines.specs.Answer.{answerOf, kept}
-use Rattle.lines.proofs.Calls.{replied, does-marks, put-front}
+use Rattle.lines.proofs.Calls.{replied, told-marks, put-front}
 use borrow.Author.Needs.{needs}
 use Rattle.lines.proofs.calling.keeps.Statement.{statement}
 use Rattle.lines.proofs.calling.keeps.Tie as tie
-
-slice-aggregate-copy-marks : tie.Need-slice-aggregate-copy-marks
-slice-aggregate-copy-marks c = search needs
 
 module _ (c : tie.After-copy-marks) where
   abbrev s : tie.Start
@@ -25,20 +22,28 @@ module _ (c : tie.After-copy-marks) where
   fits : c .copy-marks .result ≤ 1100
   fits = omega (arith, room, c .copy-marks .ensures .next)
 
+slice-aggregate-copy-marks : tie.Need-slice-aggregate-copy-marks
+slice-aggregate-copy-marks c = search needs
+
 copy-marks-requires : tie.Need-copy-marks-requires
 copy-marks-requires c κs = search needs
 
 array-share-prefix-marks : tie.Need-array-share-prefix-marks
-array-share-prefix-marks c = omega (arith, fits (c .before), c .before .copy-marks .kept .0)
+array-share-prefix-marks c = omega (arith, fits (c .before .before .before .before .before .before .before .before .before .before .before .before .before .before .before), c .before .before .before .before .before .before .before .before .before .before .before .before .before .before .before .copy-marks .kept .0)
 
-slice-aggregate-retain : tie.Need-slice-aggregate-retain
-slice-aggregate-retain c = sym (length-take-le (c .before .before .copy-marks .result) (c .before .before .copy-marks .last .0) (omega (arith, fits (c .before .before), c .before .before .copy-marks .kept .0)))
+slice-aggregate-om-retain : tie.Need-slice-aggregate-om-retain
+slice-aggregate-om-retain c =
+    let m = c .before .before .before .before .before .before .before .before .before .before .before .before .before .before .before .before in
+    sym (length-take-le (m .copy-marks .result) (m .copy-marks .last .0) (omega (arith, fits m, m .copy-marks .kept .0)))
 
-retain-requires : tie.Need-retain-requires
-retain-requires c κs = search needs
+om-retain-requires : tie.Need-om-retain-requires
+om-retain-requires c κs = search needs
 
-print-kept-requires : tie.Need-print-kept-requires
-print-kept-requires c κs = search needs
+read-requires : tie.Need-read-requires
+read-requires c κs = search needs
+
+print-answer-requires : tie.Need-print-answer-requires
+print-answer-requires c κs = search needs
 
 same-length : tie.Need-same-length
 same-length c = search needs
@@ -46,10 +51,11 @@ same-length c = search needs
 returns : tie.Need-returns
 unfolding answerOf
 returns c =
-    let p = c .before .before .before .before .before .before .before .before in
-    let s = c .before .before .before .before .before .before .before .before .before .before .before .before in
-    let q = c .before .before .before .before .before .retain in
-    replied kept refl refl (does-marks (q .ensures) (put-front (p .copy-marks .ensures) (room p))) (c .before .before .before .print-kept .ensures)
+    let printed = c .before .before in
+    let read = printed .before .before in
+    let called = read .before in
+    let m = called .before .before .before .before .before .before .before .before .before .before .before .before .before .before .before .before .before .before in
+    replied kept refl refl (told-marks (called .om-retain .ensures) (put-front (m .copy-marks .ensures) (room m))) (read .read .ensures) (printed .print-answer .ensures)
 
 pub keeps-spec : {M : Type 1} → statement M
 keeps-spec =
@@ -58,8 +64,9 @@ keeps-spec =
     slice-aggregate-copy-marks
     copy-marks-requires
     array-share-prefix-marks
-    slice-aggregate-retain
-    retain-requires
-    print-kept-requires
+    slice-aggregate-om-retain
+    om-retain-requires
+    read-requires
+    print-answer-requires
     same-length
     returns)

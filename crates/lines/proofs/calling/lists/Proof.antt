@@ -6,14 +6,17 @@ use borrow.Author.Needs.{needs}
 use Rattle.lines.proofs.calling.lists.Statement.{statement}
 use Rattle.lines.proofs.calling.lists.Tie as tie
 
-slice-aggregate-iter : tie.Need-slice-aggregate-iter
-slice-aggregate-iter c = search needs
+slice-aggregate-om-iter : tie.Need-slice-aggregate-om-iter
+slice-aggregate-om-iter c = search needs
 
-slice-aggregate-iter-2 : tie.Need-slice-aggregate-iter-2
-slice-aggregate-iter-2 c = search needs
+slice-aggregate-om-iter-2 : tie.Need-slice-aggregate-om-iter-2
+slice-aggregate-om-iter-2 c = search needs
 
-iter-requires : tie.Need-iter-requires
-iter-requires c κs = search needs
+om-iter-requires : tie.Need-om-iter-requires
+om-iter-requires c κs = search needs
+
+read-requires : tie.Need-read-requires
+read-requires c κs = search needs
 
 slice-aggregate-print-pairs : tie.Need-slice-aggregate-print-pairs
 slice-aggregate-print-pairs c = search needs
@@ -29,15 +32,20 @@ same-length c = search needs
 
 returns : tie.Need-returns
 unfolding answerOf
-returns c = replied listed refl refl (c .before .before .before .before .before .before .before .before .iter .ensures) (c .before .before .print-pairs .ensures)
+returns c =
+    let printed = c .before .before in
+    let read = printed .before .before .before .before in
+    let called = read .before .before .before in
+    λ m has good. replied listed refl refl (called .om-iter .ensures m has good) (read .read .ensures) (printed .print-pairs .ensures)
 
 pub lists-spec : {M : Type 1} → statement M
 lists-spec =
     tie.close
     (tie.spec
-    slice-aggregate-iter
-    slice-aggregate-iter-2
-    iter-requires
+    slice-aggregate-om-iter
+    slice-aggregate-om-iter-2
+    om-iter-requires
+    read-requires
     slice-aggregate-print-pairs
     slice-aggregate-print-pairs-2
     print-pairs-requires

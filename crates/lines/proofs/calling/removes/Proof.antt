@@ -6,32 +6,40 @@ use borrow.Author.Needs.{needs}
 use Rattle.lines.proofs.calling.removes.Statement.{statement}
 use Rattle.lines.proofs.calling.removes.Tie as tie
 
-slice-aggregate-remove-all : tie.Need-slice-aggregate-remove-all
-slice-aggregate-remove-all c = search needs
+slice-aggregate-om-remove-all : tie.Need-slice-aggregate-om-remove-all
+slice-aggregate-om-remove-all c = search needs
 
-remove-all-requires : tie.Need-remove-all-requires
-remove-all-requires c κs = search needs
+om-remove-all-requires : tie.Need-om-remove-all-requires
+om-remove-all-requires c κs = search needs
 
-slice-aggregate-print-removed : tie.Need-slice-aggregate-print-removed
-slice-aggregate-print-removed c = search needs
+read-requires : tie.Need-read-requires
+read-requires c κs = search needs
 
-print-removed-requires : tie.Need-print-removed-requires
-print-removed-requires c κs = search needs
+slice-aggregate-print-old : tie.Need-slice-aggregate-print-old
+slice-aggregate-print-old c = search needs
+
+print-old-requires : tie.Need-print-old-requires
+print-old-requires c κs = search needs
 
 same-length : tie.Need-same-length
 same-length c = search needs
 
 returns : tie.Need-returns
 unfolding answerOf
-returns c = replied old refl refl (c .before .before .before .before .before .before .before .remove-all .ensures) (c .before .before .before .print-removed .ensures)
+returns c =
+    let printed = c .before .before in
+    let read = printed .before .before .before in
+    let called = read .before .before in
+    replied old refl refl (called .om-remove-all .ensures) (read .read .ensures) (printed .print-old .ensures)
 
 pub removes-spec : {M : Type 1} → statement M
 removes-spec =
     tie.close
     (tie.spec
-    slice-aggregate-remove-all
-    remove-all-requires
-    slice-aggregate-print-removed
-    print-removed-requires
+    slice-aggregate-om-remove-all
+    om-remove-all-requires
+    read-requires
+    slice-aggregate-print-old
+    print-old-requires
     same-length
     returns)

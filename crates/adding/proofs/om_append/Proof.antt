@@ -1,0 +1,76 @@
+-- `adding::om_append` meets its contract. Assumes nothing.
+use mathlib.Core.Path.{sym, _∙_}
+use Rattle.multimap.specs.Arrays.{Arrays, arrays}
+use Rattle.adding.proofs.Appends.{told-full, told-known, told-new}
+use borrow.Author.Needs.{needs}
+use Rattle.adding.proofs.om_append.Statement.{statement}
+use Rattle.adding.proofs.om_append.Tie as tie
+
+abbrev given : tie.Start → Arrays
+given s =
+    arrays (s .args .keys .now) (s .args .lengths .now) (s .args .next-key .now) (s .args .previous-key .now) (s .args .values .now)
+    (s .args .key-index .now) (s .args .next-value .now) (s .args .previous-value .now) (s .args .next-index .now)
+    (s .args .previous-index .now) (s .args .index .now) (s .args .members .now) (s .args .rounds .now) (s .args .taken .now)
+
+find-requires : tie.Need-find-requires
+find-requires c κs = search needs
+
+enum-known-found : tie.Need-enum-known-found
+enum-known-found c = search needs
+
+element-copy-out-held : tie.Need-element-copy-out-held
+element-copy-out-held c = search needs
+
+tell-requires : tie.Need-tell-requires
+tell-requires c κs = search needs
+
+returns : tie.Need-returns
+returns c =
+    let s = c .before .before .before .before .before .before .before .before .before .before in
+    told-full (given s) (s .pre) (s .args .k) (s .args .v) (c .before .before .if1 .taken) _ (c .tell .ensures)
+
+add-requires : tie.Need-add-requires
+add-requires c κs = search needs
+
+tell-requires-2 : tie.Need-tell-requires-2
+tell-requires-2 c κs = search needs
+
+returns-2 : tie.Need-returns-2
+returns-2 c =
+    let added = c .before .before in
+    let room = added .before .before .before .before .before .before .before .before .before .before .before .before .before .before .before in
+    let seen = room .before .before .before in
+    let search = seen .before .before in
+    let s = search .before .before .before in
+    told-known (given s) (s .pre) (s .args .k) (s .args .v) (room .if1 .left) _ _ _ (sym (search .find .ensures) ∙ seen .found .given .1)
+    _ (added .add .ensures) _ (c .tell2 .ensures)
+
+enum-known-found-2 : tie.Need-enum-known-found-2
+enum-known-found-2 c = search needs
+
+admit-requires : tie.Need-admit-requires
+admit-requires c κs = search needs
+
+returns-3 : tie.Need-returns-3
+returns-3 c =
+    let seen = c .before .before .before .before .before .before .before .before .before .before .before .before .before .before .before .before .before in
+    let search = seen .before .before in
+    let s = search .before .before .before in
+    told-new (given s) (s .pre) (s .args .k) (s .args .v) _ _ (sym (search .find .ensures) ∙ seen .found2 .given .1)
+    _ _ (c .admit .ensures)
+
+pub om-append-spec : {M : Type 1} → statement M
+om-append-spec =
+    tie.close
+    (tie.spec
+    find-requires
+    enum-known-found
+    element-copy-out-held
+    tell-requires
+    returns
+    add-requires
+    tell-requires-2
+    returns-2
+    enum-known-found-2
+    admit-requires
+    returns-3)

@@ -1,0 +1,150 @@
+// The calls that put a round in the place of a member's record, in place.
+use answers::Answer;
+use index::Found;
+use index::KeyPlace;
+use multimap::Counts;
+use multimap::Index;
+use multimap::IndexLinks;
+use multimap::KeyIndex;
+use multimap::KeyLinks;
+use multimap::Keys;
+use multimap::Lengths;
+use multimap::ValueLinks;
+use multimap::Values;
+ghost use mathlib.Core.Path.{_≡_};
+ghost use mathlib.Core.List.{[]};
+ghost use Rattle.steps.specs.Call as C;
+ghost use Rattle.steps.specs.Told.{Told};
+ghost use Rattle.multimap.specs.Arrays.{Arrays};
+ghost use Rattle.multimap.specs.Lent.{lent, left};
+ghost use Rattle.multimap.specs.WellLinked.{WellLinked, linked};
+ghost use Rattle.inserting.specs.Records.{withoutRecord, withOnly};
+
+// Puts the round v in the place of the member's record; a new member joins at the back. The answer is the old record's first round, or none.
+#[no_mangle]
+#[rattlefmt::skip]
+pub extern "C" fn om_insert(
+    keys: &mut Keys, lengths: &mut Lengths, next_key: &mut KeyLinks, previous_key: &mut KeyLinks,
+    values: &mut Values, key_index: &mut KeyIndex, next_value: &mut ValueLinks, previous_value: &mut ValueLinks,
+    next_index: &mut IndexLinks, previous_index: &mut IndexLinks, index: &mut Index,
+    members: &mut Counts, rounds: &mut Counts, taken: &mut u32,
+    k: u64, v: u64, answer: &mut [u64; 4],
+)
+    ghost { Arrays }
+    requires { λ α. ⌜ lent keys lengths «next_key» «previous_key» values «key_index» «next_value» «previous_value» «next_index» «previous_index» index members rounds taken ≡ α ⌝ }
+    requires { λ α. ⌜ WellLinked α ⌝ }
+    ensures { λ α _. ⌜ Told linked (C.insert k v) α (left keys lengths «next_key» «previous_key» values «key_index» «next_value» «previous_value» «next_index» «previous_index» index members rounds taken) [] [] (now (answer .exit)) ⌝ }
+{
+    let found = index::find(index, keys, k);
+    match found {
+        Found::At(_, key, _) => {
+            let head = multimap::head(next_index, key);
+            let first = multimap::round(values, head);
+            replace(
+                keys, lengths, next_key, previous_key, values, key_index, next_value, previous_value,
+                next_index, previous_index, index, members, rounds, taken, key, v,
+            );
+            answers::tell(answer, Answer::Round(first));
+            return;
+        }
+        Found::Absent(at, _) => {
+            adding::admit(
+                keys, lengths, next_key, previous_key, values, key_index, next_value, previous_value,
+                next_index, previous_index, index, members, rounds, taken, k, v, at, Answer::Nothing, answer,
+            );
+            return;
+        }
+    }
+}
+
+// Does the same, but writes the old record, in order, to the front of `out`; the answer is its length.
+#[no_mangle]
+#[rattlefmt::skip]
+pub extern "C" fn om_insert_all(
+    keys: &mut Keys, lengths: &mut Lengths, next_key: &mut KeyLinks, previous_key: &mut KeyLinks,
+    values: &mut Values, key_index: &mut KeyIndex, next_value: &mut ValueLinks, previous_value: &mut ValueLinks,
+    next_index: &mut IndexLinks, previous_index: &mut IndexLinks, index: &mut Index,
+    members: &mut Counts, rounds: &mut Counts, taken: &mut u32,
+    k: u64, v: u64, out: &mut [u64], answer: &mut [u64; 4],
+)
+    ghost { Arrays }
+    requires { λ α. ⌜ lent keys lengths «next_key» «previous_key» values «key_index» «next_value» «previous_value» «next_index» «previous_index» index members rounds taken ≡ α ⌝ }
+    requires { λ α. ⌜ WellLinked α ⌝ }
+    ensures { λ α _. ⌜ Told linked (C.insert-all k v (now (out .entry))) α (left keys lengths «next_key» «previous_key» values «key_index» «next_value» «previous_value» «next_index» «previous_index» index members rounds taken) (now (out .exit)) [] (now (answer .exit)) ⌝ }
+{
+    let found = index::find(index, keys, k);
+    match found {
+        Found::At(_, key, _) => {
+            let n = multimap::size(lengths, key);
+            if out.len() < n as usize {
+                answers::tell(answer, Answer::Refused(3));
+                return;
+            }
+            let head = multimap::head(next_index, key);
+            let count = copying::copy(values, next_index, head.0, n, out);
+            replace(
+                keys, lengths, next_key, previous_key, values, key_index, next_value, previous_value,
+                next_index, previous_index, index, members, rounds, taken, key, v,
+            );
+            answers::tell(answer, count);
+            return;
+        }
+        Found::Absent(at, _) => {
+            adding::admit(
+                keys, lengths, next_key, previous_key, values, key_index, next_value, previous_value,
+                next_index, previous_index, index, members, rounds, taken, k, v, at, Answer::Count(0), answer,
+            );
+            return;
+        }
+    }
+}
+
+// Puts the round v in the place of the record of the member place `key`, which keeps its place among the members.
+#[rattlefmt::skip]
+pub fn replace(
+    keys: &mut Keys, lengths: &mut Lengths, next_key: &mut KeyLinks, previous_key: &mut KeyLinks,
+    values: &mut Values, key_index: &mut KeyIndex, next_value: &mut ValueLinks, previous_value: &mut ValueLinks,
+    next_index: &mut IndexLinks, previous_index: &mut IndexLinks, index: &mut Index,
+    members: &mut Counts, rounds: &mut Counts, taken: &mut u32,
+    key: KeyPlace, v: u64,
+)
+    ghost { Arrays }
+    requires { λ α. ⌜ lent keys lengths «next_key» «previous_key» values «key_index» «next_value» «previous_value» «next_index» «previous_index» index members rounds taken ≡ α ⌝ }
+    ensures { λ α _. ⌜ left keys lengths «next_key» «previous_key» values «key_index» «next_value» «previous_value» «next_index» «previous_index» index members rounds taken ≡ withOnly α (key .0) v ⌝ }
+{
+    empty(
+        keys, lengths, next_key, previous_key, values, key_index, next_value, previous_value,
+        next_index, previous_index, index, members, rounds, taken, key,
+    );
+    changing::add(
+        keys, lengths, next_key, previous_key, values, key_index, next_value, previous_value,
+        next_index, previous_index, index, members, rounds, taken, key, v,
+    );
+}
+
+// Strikes the rounds of the member place `key`, as many as its length says, from its head on.
+#[rattlefmt::skip]
+pub fn empty(
+    keys: &mut Keys, lengths: &mut Lengths, next_key: &mut KeyLinks, previous_key: &mut KeyLinks,
+    values: &mut Values, key_index: &mut KeyIndex, next_value: &mut ValueLinks, previous_value: &mut ValueLinks,
+    next_index: &mut IndexLinks, previous_index: &mut IndexLinks, index: &mut Index,
+    members: &mut Counts, rounds: &mut Counts, taken: &mut u32,
+    key: KeyPlace,
+)
+    ghost { Arrays }
+    requires { λ α. ⌜ lent keys lengths «next_key» «previous_key» values «key_index» «next_value» «previous_value» «next_index» «previous_index» index members rounds taken ≡ α ⌝ }
+    ensures { λ α _. ⌜ left keys lengths «next_key» «previous_key» values «key_index» «next_value» «previous_value» «next_index» «previous_index» index members rounds taken ≡ withoutRecord α (key .0) ⌝ }
+{
+    let turns = multimap::size(lengths, key);
+    let mut x = multimap::head(next_index, key);
+    let mut i: u16 = 0;
+    while i < turns {
+        let after = multimap::after(next_index, x);
+        changing::strike(
+            keys, lengths, next_key, previous_key, values, key_index, next_value, previous_value,
+            next_index, previous_index, index, members, rounds, taken, x,
+        );
+        x = after;
+        i += 1;
+    }
+}

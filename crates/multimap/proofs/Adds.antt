@@ -1,0 +1,37 @@
+-- A round is added to a map: what the stores of `om_post` make of it. Assumes nothing.
+use Prim.Native.Nat.{ℕ, _<_}
+use mathlib.Core.Path.{refl, sym, subst}
+use native.Mathlib.Omega.{arith}
+use lib.ListN.{length}
+use Rattle.links.specs.Links.{Links, recordIn}
+use Rattle.links.proofs.Chains.{added-some}
+use Rattle.multimap.specs.Map.{linksOf}
+use Rattle.multimap.specs.Arrays.{Arrays}
+use Rattle.multimap.specs.Changes.{withRound}
+use Rattle.multimap.specs.Adding.{Ready, AddedTo}
+use Rattle.multimap.specs.Sweep.{Sound}
+use Rattle.multimap.proofs.Builds.{round-links, round-pairs, round-sound}
+
+module _ (m : Arrays) (key : ℕ) (g : Ready m key) (v : ℕ) where
+  sound : Sound m
+  sound = record { sized = g .sized; chained = g .chained; index = g .index }
+
+  pub adds : AddedTo m key v (withRound m key v)
+  adds =
+      let s = round-sound m sound key (g .here) (g .room) v in
+      record {
+        linked =
+            record {
+              sized = s .sized;
+              chained = s .chained;
+              some =
+                  λ j i.
+                  subst (λ (c : Links). 0 < length (recordIn c j)) (sym (round-links m sound key (g .here) (g .room) v))
+                  (added-some (linksOf m) (g .chained) key (g .here) (g .room) (g .others) j i);
+              index = s .index;
+              taken = omega arith;
+            };
+        pairs = round-pairs m sound key (g .here) (g .room) v;
+        members = refl;
+        taken = refl;
+      }

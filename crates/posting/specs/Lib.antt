@@ -1,3 +1,0 @@
-pub mod Adding
-pub mod Strike
-pub mod Posting

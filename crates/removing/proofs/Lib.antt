@@ -1,0 +1,2 @@
+pub mod Expels
+pub mod WritesOut

@@ -1,0 +1,3 @@
+-- What the contracts of `turn` cite.
+pub mod Turned
+pub mod Has

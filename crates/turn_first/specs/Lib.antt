@@ -1,0 +1,2 @@
+-- What the contracts of the calls by number cite.
+pub mod Turned

@@ -1,0 +1,1 @@
+-- The contract of `turn_second` cites turn_first/specs/Turned.antt.
