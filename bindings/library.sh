@@ -1,18 +1,35 @@
 #!/bin/sh
-# Puts libprelgammo.a to target/bindings: the one that PRELGAMMO_STATICLIB names, or else what `rt staticlib` proves and builds of the
-# crates exports, changing and posting, in one archive.
+# Puts libprelgammo.a to target/bindings: the one that PRELGAMMO_STATICLIB names, or else one archive of all that the crates
+# of crates.txt export. `rt staticlib` keeps of a crate its own functions marked #[no_mangle], not those of the crates that it
+# uses, so each crate that has some is proved and built by it, and the objects are put together. A crate is not built again
+# while `rt check` says that neither it nor what it uses has changed.
 set -eu
 
 cd "$(dirname "$0")/.."
 out=$PWD/target/bindings
 mkdir -p "$out"
+
+# The crates with exported functions, in the order of crates.txt.
+exporting() {
+    sed -n 's/^\([A-Za-z0-9_]*\):.*/\1/p' crates.txt | while read -r crate; do
+        if grep -qr '#\[no_mangle\]' "crates/$crate/src"; then echo "$crate"; fi
+    done
+}
+
 if [ -n "${PRELGAMMO_STATICLIB:-}" ]; then
     cp -p "$PRELGAMMO_STATICLIB" "$out/libprelgammo.a.new"
 else
+    crates=$(exporting)
+    # the words of $crates are names of crates
+    # shellcheck disable=SC2086
+    rt check $crates
     rm -f "$out/libprelgammo.a.new"
-    for crate in exports changing posting; do
-        rt staticlib "$crate"
-        (cd target/staticlib && ar x "lib$crate.a")
+    for crate in $crates; do
+        if ! cmp -s "target/stamp/$crate" "target/staticlib/$crate.stamp"; then
+            rt staticlib "$crate"
+            (cd target/staticlib && ar x "lib$crate.a")
+            cp "target/stamp/$crate" "target/staticlib/$crate.stamp"
+        fi
         ar rcs "$out/libprelgammo.a.new" "target/staticlib/$crate.o"
     done
 fi

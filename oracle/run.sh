@@ -1,12 +1,12 @@
 #!/bin/sh
 # Runs the comparison with the Rust crate, all of it from nothing: fetches by apt-get what is missing, builds the crate,
-# the port's static libraries (where crates.txt has the crate exports), the driver and, where its argument says so, the calls
-# program. Nothing is written to the repository outside target/, save by the argument sample.
+# the port's static library (bindings/library.sh), the driver and, where its argument says so, the calls program. Nothing is
+# written to the repository outside target/, save by the arguments bench and sample.
 #
 #   oracle/run.sh [quick|full] [SEED]    the driver's own tests, the confirmed differences, the mixes of EntryValues, the
 #                                        stored sample, damaged records and images; then lists of calls (quick without an argument)
 #   oracle/run.sh calls [SEED]           the calls program beside the same lines over the crate
-#   oracle/run.sh bench                  the time of each call; then of the calls program
+#   oracle/run.sh bench                  the time of each call, with a chart to docs/benchmarks.svg; then of the calls program
 #   oracle/run.sh sample                 write the sample of the crate's answers anew: crates/crate_answers/stdin and stdout
 #
 # ORACLE_SOURCE names list_ordered_multimap.rs where it does not stand beside the work tree (oracle/build.sh).
@@ -29,18 +29,8 @@ fi
 
 oracle/build.sh
 
-port=
-if grep -q '^exports:' crates.txt; then
-    rt staticlib exports
-    rt staticlib changing
-    rt staticlib posting
-    port="--cfg port -L native=target/staticlib -l static=exports -l static=changing -l static=posting"
-else
-    echo "the port is not linked: crates.txt has no crate exports"
-fi
-# the words of $port are flags of rustc
-# shellcheck disable=SC2086
-rustc --edition 2021 -O --crate-name driver $port -L dependency=target/oracle \
+bindings/library.sh
+rustc --edition 2021 -O --crate-name driver -L dependency=target/oracle -L native=target/bindings -l static=prelgammo \
     --extern ordered_multimap=target/oracle/libordered_multimap.rlib -o target/oracle/driver oracle/driver/main.rs
 
 [ $# -gt 0 ] || set -- quick
@@ -50,10 +40,8 @@ quick | full)
     target/oracle/driver faults
     target/oracle/driver mixes
     target/oracle/driver sample
-    if [ -n "$port" ]; then
-        target/oracle/driver damage
-        target/oracle/driver images
-    fi
+    target/oracle/driver damage
+    target/oracle/driver images
     target/oracle/driver "$@"
     ;;
 calls)

@@ -106,6 +106,8 @@ fn over_many<M: Map>() -> Vec<Case<M>> {
         Case { name: "insert_all, record of 1,000", before: long_record, timed: |m| m.insert_all(7, 0), calls: 1 },
         Case { name: "remove_all, record of 1,000", before: long_record, timed: |m| m.remove_all(7), calls: 1 },
         Case { name: "retain, 512 of 1,024 struck", before: full, timed: |m| m.retain(|_, v| v % 2 == 0), calls: 1 },
+        Case { name: "retain, 64 of 1,024 struck", before: full, timed: |m| m.retain(|_, v| v % 16 > 0), calls: 1 },
+        Case { name: "retain, 1 of 1,024 struck", before: full, timed: |m| m.retain(|_, v| v != 512), calls: 1 },
         Case { name: "retain, none of 1,024 struck", before: full, timed: |m| m.retain(|_, _| true), calls: 1 },
         Case { name: "pack_to", before: filled, timed: |m| m.pack_to(256, 1024), calls: 1 },
         Case { name: "clear", before: filled, timed: |m| m.clear(), calls: 1 },

@@ -1,4 +1,5 @@
-// Times the package and the crate call by call, in turn in one run; prints least times and their ratio.
+// Times the package and the crate call by call, in turn in one run; prints least times and their ratio, as a table in
+// Markdown.
 
 mod cases;
 mod maps;
@@ -40,19 +41,31 @@ fn time_copy() -> f64 {
     least(|| time(1, || black_box(&mut to).copy_from_slice(black_box(&from))))
 }
 
+fn shown(time: f64) -> String {
+    match time.round() as u64 {
+        0..20 => format!("{time:.1}"),
+        whole @ 20..1000 => whole.to_string(),
+        whole => format!("{},{:03}", whole / 1000, whole % 1000),
+    }
+}
+
 // The crate has no image.
 fn time_image() {
     let map = Package::from_pairs(&pairs()).unwrap();
     let bytes = map.to_bytes();
     let writing = least(|| time(1, || drop(black_box(map.to_bytes()))));
     let reading = least(|| time(1, || drop(black_box(Package::from_bytes(&bytes)))));
-    println!("{:<38} {writing:>12.0}", "to_bytes, 1,024");
-    println!("{:<38} {reading:>12.0}", "from_bytes, 1,024");
+    println!("| to_bytes, 1,024 | {} | - | - |", shown(writing));
+    println!("| from_bytes, 1,024 | {} | - | - |", shown(reading));
 }
 
 fn main() {
-    println!("least times of {RUNS} runs; a plain copy of the record's 24,096 bytes takes {:.0} ns", time_copy());
-    println!("{:<38} {:>12} {:>12} {:>15}", "ns for one call", "package", "crate", "package/crate");
+    println!(
+        "Nanoseconds, least times of {RUNS} runs. A plain copy of the record (24,096 bytes): {:.0} ns.\n",
+        time_copy()
+    );
+    println!("| Call | Package | Crate | Package / crate |");
+    println!("|---|---|---|---|");
     for (on_package, on_crate) in cases::<Package>().iter().zip(&cases::<Crate>()) {
         let (package, other) = (made(on_package), made(on_crate));
         let (mut left, mut right) = (f64::MAX, f64::MAX);
@@ -60,7 +73,7 @@ fn main() {
             left = left.min(once(on_package, &package));
             right = right.min(once(on_crate, &other));
         }
-        println!("{:<38} {left:>12.0} {right:>12.1} {:>15.2}", on_package.name, left / right);
+        println!("| {} | {} | {} | {:.2} |", on_package.name, shown(left), shown(right), left / right);
     }
     time_image();
 }

@@ -28,7 +28,7 @@ fn ready(library: PathBuf) -> PathBuf {
     library
 }
 
-// Only crates that have changed since they were last proved are proved again, and the three that make up the library.
+// Only crates that have changed since they were last proved are proved again.
 fn prove(root: &Path) -> PathBuf {
     println!("cargo:rerun-if-changed={}", root.join("crates").display());
     println!("cargo:rerun-if-changed={}", root.join("crates.txt").display());

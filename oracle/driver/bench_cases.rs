@@ -2,15 +2,17 @@
 
 use crate::model::{Call, Op, MAX_MEMBERS, MAX_ROUNDS};
 
-// What a call of the port may cost: as much as the crate's and four plain copies of the record, or as much as the crate's.
+// What a call of the port may take: no longer than the crate's, half of it, or so many plain copies of the record.
 #[derive(Clone, Copy)]
 pub enum Aim {
-    FourCopies,
     NoSlower,
+    Half,
+    Copies(f64),
     None,
 }
 
 pub struct Case {
+    pub group: &'static str,
     pub name: &'static str,
     pub aim: Aim,
     // the calls that make the map, which are not timed
@@ -52,6 +54,11 @@ fn each(op: Op) -> Vec<Call> {
     repeated(250, |at| Call::new(op, at, at))
 }
 
+// Three calls of each of them.
+fn each_thrice(op: Op) -> Vec<Call> {
+    repeated(750, |at| Call::new(op, at % 250, at))
+}
+
 fn lent(op: Op) -> Vec<Call> {
     repeated(250, |at| Call::lending(op, at, at, 4))
 }
@@ -66,69 +73,83 @@ fn pops(op: Op, count: u64) -> Vec<Call> {
 }
 
 pub fn cases() -> Vec<Case> {
-    one_round().into_iter().chain(reads()).chain(many_rounds()).collect()
+    adding().into_iter().chain(taking_out()).chain(reading()).chain(over_all()).collect()
 }
 
-// Calls that add or take out one round.
-fn one_round() -> Vec<Case> {
-    let case = |name, before, timed| Case { name, aim: Aim::FourCopies, before, timed };
-    let append = |op| repeated(750, move |at| Call::new(op, at % 250, at));
+fn adding() -> Vec<Case> {
+    let case = |name, aim, before, timed| Case { group: "Adding", name, aim, before, timed };
+    let (half, as_fast) = (Aim::Half, Aim::NoSlower);
     vec![
-        case("append, known member", one_each(), append(Op::Append)),
-        case("append, new member", few_members(), each(Op::Append)),
-        case("insert over a record of one round", one_each(), each(Op::Insert)),
-        case("insert, new member", few_members(), each(Op::Insert)),
-        case("remove of a record of one round", one_each(), each(Op::Remove)),
-        case("occupied append", one_each(), append(Op::OccupiedAppend)),
-        case("occupied insert over one round", one_each(), each(Op::OccupiedInsert)),
-        case("occupied remove_entry of one round", one_each(), each(Op::OccupiedRemoveEntry)),
-        case("vacant insert", few_members(), each(Op::VacantInsert)),
-        case("pop_front, member stays", filled(), pops(Op::PopFront, 750)),
-        case("pop_front, member gone", one_each(), pops(Op::PopFront, 250)),
-        case("pop_back, member stays", filled(), pops(Op::PopBack, 750)),
-        case("pop_back, member gone", one_each(), pops(Op::PopBack, 250)),
+        case("append, known member", half, one_each(), each_thrice(Op::Append)),
+        case("append, new member", half, few_members(), each(Op::Append)),
+        case("insert over one round", half, one_each(), each(Op::Insert)),
+        case("insert over 4 rounds", half, filled(), each(Op::Insert)),
+        case("insert, new member", half, few_members(), each(Op::Insert)),
+        case("insert_all over 4 rounds", as_fast, filled(), lent(Op::InsertAll)),
+        case("insert_all over 1,000 rounds", as_fast, long_record(), vec![Call::lending(Op::InsertAll, 7, 1, 1000)]),
+        case("occupied append", as_fast, one_each(), each_thrice(Op::OccupiedAppend)),
+        case("occupied insert over one round", as_fast, one_each(), each(Op::OccupiedInsert)),
+        case("occupied insert over 4 rounds", as_fast, filled(), each(Op::OccupiedInsert)),
+        case("vacant insert", as_fast, few_members(), each(Op::VacantInsert)),
     ]
 }
 
-fn reads() -> Vec<Case> {
-    let case = |name, timed| Case { name, aim: Aim::FourCopies, before: filled(), timed };
-    let long = |name, before, timed| Case { name, aim: Aim::None, before, timed };
+fn taking_out() -> Vec<Case> {
+    let case = |name, aim, before, timed| Case { group: "Taking out", name, aim, before, timed };
+    let (half, as_fast) = (Aim::Half, Aim::NoSlower);
     vec![
-        case("get, every second member absent", half_absent(Op::Get)),
-        case("entry_len, every second member absent", half_absent(Op::EntryLen)),
-        case("contains_key, every second member absent", half_absent(Op::ContainsKey)),
-        case("entry, every second member absent", half_absent(Op::Entry)),
-        case("keys_len", half_absent(Op::KeysLen)),
-        case("values_len", half_absent(Op::ValuesLen)),
-        long("T, which the crate has not", filled(), half_absent(Op::Taken)),
-        long("get_all, record of 4", filled(), lent(Op::GetAll)),
-        long("get_all, record of 1,000", long_record(), repeated(20, |_| Call::lending(Op::GetAll, 7, 0, 1000))),
-        long("keys, 250", filled(), repeated(100, |_| Call::lending(Op::Keys, 0, 0, 250))),
-        long("iter, 1,000", filled(), repeated(20, |_| Call::iter(1000, 1000))),
+        case("remove of one round", as_fast, one_each(), each(Op::Remove)),
+        case("remove of 4 rounds", as_fast, filled(), each(Op::Remove)),
+        case("remove_all of 4 rounds", as_fast, filled(), lent(Op::RemoveAll)),
+        case("remove_all of 1,000 rounds", as_fast, long_record(), vec![Call::lending(Op::RemoveAll, 7, 0, 1000)]),
+        case("occupied remove_entry of one round", as_fast, one_each(), each(Op::OccupiedRemoveEntry)),
+        case("occupied remove_entry of 4 rounds", as_fast, filled(), each(Op::OccupiedRemoveEntry)),
+        case("pop_front, member stays", half, filled(), pops(Op::PopFront, 750)),
+        case("pop_front, member gone", half, one_each(), pops(Op::PopFront, 250)),
+        case("pop_back, member stays", half, filled(), pops(Op::PopBack, 750)),
+        case("pop_back, member gone", half, one_each(), pops(Op::PopBack, 250)),
     ]
 }
 
-// Calls that change many rounds at once.
-fn many_rounds() -> Vec<Case> {
-    let few = |name, timed| Case { name, aim: Aim::None, before: filled(), timed };
-    let case = |name, before, timed| Case { name, aim: Aim::NoSlower, before, timed };
+// Of a member's number, every second one is of no member.
+fn reading() -> Vec<Case> {
+    let case = |name, aim, before, timed| Case { group: "Reading", name, aim, before, timed };
+    let as_fast = Aim::NoSlower;
+    vec![
+        case("get", Aim::Half, filled(), half_absent(Op::Get)),
+        case("entry_len", as_fast, filled(), half_absent(Op::EntryLen)),
+        case("contains_key", as_fast, filled(), half_absent(Op::ContainsKey)),
+        case("entry", as_fast, filled(), half_absent(Op::Entry)),
+        case("keys_len", as_fast, filled(), half_absent(Op::KeysLen)),
+        case("values_len", as_fast, filled(), half_absent(Op::ValuesLen)),
+        case("T, which the crate has not", Aim::None, filled(), half_absent(Op::Taken)),
+        case("get_all of 4 rounds", as_fast, filled(), lent(Op::GetAll)),
+        case(
+            "get_all of 1,000 rounds",
+            as_fast,
+            long_record(),
+            repeated(20, |_| Call::lending(Op::GetAll, 7, 0, 1000)),
+        ),
+        case("keys, 250", as_fast, filled(), repeated(100, |_| Call::lending(Op::Keys, 0, 0, 250))),
+        case("iter, 1,000", as_fast, filled(), repeated(20, |_| Call::iter(1000, 1000))),
+    ]
+}
+
+// Of 1,024 rounds.
+fn over_all() -> Vec<Case> {
+    let case = |name, timed| Case { group: "The whole map", name, aim: Aim::NoSlower, before: full(), timed };
     let every_second = [0, 1].repeat(512);
     let every_16th = [vec![0], vec![1; 15]].concat().repeat(64);
     let mut one = vec![1; 1024];
     one[512] = 0;
     let packing = Call::new(Op::PackTo, MAX_MEMBERS as u64, MAX_ROUNDS as u64);
     vec![
-        few("insert, record of 4", each(Op::Insert)),
-        few("insert_all, record of 4", lent(Op::InsertAll)),
-        few("remove, record of 4", each(Op::Remove)),
-        few("remove_all, record of 4", lent(Op::RemoveAll)),
-        case("remove_all, record of 1,000", long_record(), vec![Call::lending(Op::RemoveAll, 7, 0, 1000)]),
-        case("insert_all, record of 1,000", long_record(), vec![Call::lending(Op::InsertAll, 7, 1, 1000)]),
-        case("retain, 512 of 1,024 struck", full(), vec![Call::retain(every_second)]),
-        case("retain, 64 of 1,024 struck", full(), vec![Call::retain(every_16th)]),
-        case("retain, 1 of 1,024 struck", full(), vec![Call::retain(one)]),
-        case("retain, none of 1,024 struck", full(), repeated(20, |_| Call::retain(vec![1; 1024]))),
-        case("pack_to, 1,024 rounds of 251 members", full(), vec![packing]),
-        case("clear, 1,024 rounds of 251 members", full(), vec![Call::new(Op::Clear, 0, 0)]),
+        case("retain, none of 1,024 struck", repeated(20, |_| Call::retain(vec![1; 1024]))),
+        case("retain, 1 of 1,024 struck", vec![Call::retain(one)]),
+        case("retain, 64 of 1,024 struck", vec![Call::retain(every_16th)]),
+        case("retain, 512 of 1,024 struck", vec![Call::retain(every_second)]),
+        case("pack_to, 1,024 rounds of 251 members", vec![packing]),
+        // which takes as long where nothing is left, on both sides
+        case("clear", repeated(250, |_| Call::new(Op::Clear, 0, 0))),
     ]
 }

@@ -36,7 +36,21 @@ pub fn deep(mut calls: usize, work: &mut dyn FnMut()) {
     hold(&mut calls);
 }
 
-// A plain copy of so many bytes.
+extern "C" {
+    fn mallopt(parameter: i32, value: i32) -> i32;
+}
+
+// Has the allocator keep what is freed, so that a copy of a map does not wait for the kernel to clear its pages. That would
+// fall to the crate, whose maps are several blocks.
+pub fn keep_memory() {
+    let (trim_threshold, mmap_threshold) = (-1, -3);
+    for parameter in [trim_threshold, mmap_threshold] {
+        let set = unsafe { mallopt(parameter, 1 << 30) };
+        assert_eq!(set, 1, "mallopt fails");
+    }
+}
+
+// A plain copy of so many bytes to a place that was written before, both of them near in the cache.
 pub fn time_copy(bytes: usize) -> f64 {
     let (from, mut room) = (vec![1u8; bytes], vec![0u8; bytes + 4096]);
     let run = |run: usize| {
@@ -48,4 +62,19 @@ pub fn time_copy(bytes: usize) -> f64 {
         timed(|| (0..COPIES).for_each(copy)) / COPIES as f64
     };
     median((0..128).map(run).collect())
+}
+
+// The same from each of eight places to the next, of which not all are near: as a call copies that takes a record by value,
+// to its argument, to its own variables, and to its result.
+pub fn time_copies(bytes: usize) -> f64 {
+    let mut room = vec![1u8; 8 * (bytes + 4096)];
+    let run = |run: usize| {
+        let place = |at: usize| at % 8 * (bytes + 32 * run);
+        let copy = |at: usize| {
+            room.copy_within(place(at)..place(at) + bytes, place(at + 1));
+            hold(&mut room[..]);
+        };
+        timed(|| (0..COPIES).for_each(copy)) / COPIES as f64
+    };
+    median((1..128).map(run).collect())
 }

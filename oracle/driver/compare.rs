@@ -24,8 +24,7 @@ pub struct Tally {
     // the most rounds and members held
     pub most_rounds: usize,
     pub most_members: usize,
-    // lists encoded and decoded again; tapes run by the port, the calls on them, and of these the ones made one by one
-    pub decoded: u64,
+    // tapes run by the port, the calls on them, and of these the ones that were made one by one, in each of the ways
     pub tapes: u64,
     pub on_port: u64,
     pub one_by_one: u64,
@@ -127,21 +126,11 @@ impl Session {
     }
 
     // Ends a list: the port runs it from an empty map, and its state is read after each call from number `from` on. Calls
-    // before that were compared with another list. Without a port, some lists go through the tape's decoder.
+    // before that were compared with another list.
     pub fn end(&mut self, run: &Run, from: usize) -> Result<(), Difference> {
         self.lists += 1;
-        if !self.ports.is_empty() {
-            let tape = Tape::of(&with_reads(&run.list, from));
-            return self.run_tape(&tape).map_err(|what| run.difference(what));
-        }
-        if self.lists % 64 == 0 {
-            self.tally.decoded += 1;
-            let list = with_reads(&run.list, from);
-            if Tape::of(&list).decode() != list {
-                return Err(run.difference("the tape decodes to another list".to_string()));
-            }
-        }
-        Ok(())
+        let tape = Tape::of(&with_reads(&run.list, from));
+        self.run_tape(&tape).map_err(|what| run.difference(what))
     }
 
     // The tape on the ports whose turn it is.
@@ -150,7 +139,7 @@ impl Session {
         let calls = tape.calls.len() as u64 / 6;
         self.tally.tapes += 1;
         self.tally.on_port += calls;
-        self.tally.one_by_one += calls * (turn as u64 - 1);
+        self.tally.one_by_one += if turn > 1 { calls } else { 0 };
         self.ports.iter().take(turn).try_for_each(|port| tape_difference(port.as_ref(), tape).map_or(Ok(()), Err))
     }
 
@@ -212,7 +201,10 @@ fn add_reads(model: &Model, named: u64, all: bool, list: &mut Vec<Call>) {
 // Where a port leaves a tape otherwise than the model does.
 pub fn tape_difference(port: &dyn Port, tape: &Tape) -> Option<String> {
     let (mut found, mut due) = (tape.clone(), tape.clone());
-    let (ran, calls) = (port.replay(&mut found), ModelPort.replay(&mut due));
+    let (ran, calls) = match (port.replay(&mut found), ModelPort.replay(&mut due)) {
+        (Ok(ran), Ok(calls)) => (ran, calls),
+        (Err(what), _) | (_, Err(what)) => return Some(what),
+    };
     if found == due {
         return (ran != calls).then(|| format!("the port says that it ran {} calls, not {}", ran, calls));
     }

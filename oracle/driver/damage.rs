@@ -6,7 +6,7 @@ use crate::model::{Call, Op};
 use std::collections::HashSet;
 
 // The places of a list in order, where its links and its freed places are right.
-fn order(next: &[u16], previous: &[u16], len: u16, fresh: u16, free: u16) -> Option<Vec<u16>> {
+fn order(next: &[u16], previous: &[u16], [len, fresh, free]: [u16; 3]) -> Option<Vec<u16>> {
     let root = (next.len() - 1) as u16;
     if len > fresh || fresh > root {
         return None;
@@ -57,8 +57,8 @@ fn indexed(m: &Map, members: &[u16]) -> bool {
 }
 
 fn well_linked(m: &Map) -> bool {
-    let members = order(&m.next_key, &m.previous_key, m.keys_len, m.keys_fresh, m.keys_free);
-    let rounds = order(&m.next_value, &m.previous_value, m.values_len, m.values_fresh, m.values_free);
+    let members = order(&m.next_key, &m.previous_key, m.members);
+    let rounds = order(&m.next_value, &m.previous_value, m.rounds);
     members.zip(rounds).map_or(false, |(members, rounds)| {
         let known: HashSet<u16> = members.iter().copied().collect();
         let numbers: HashSet<u64> = members.iter().map(|p| m.keys[*p as usize]).collect();
@@ -88,10 +88,12 @@ fn sample(random: &mut Random) -> Map {
     let (calls, members) = (random.below(40), 1 + random.below(12));
     for _ in 0..calls {
         let k = random.below(members) as u64;
-        let call = match random.below(10) {
-            0 => Call::new(Op::Remove, k, 0),
-            1 => Call::new(Op::PopFront, 0, 0),
-            2 => Call::new(Op::PopBack, 0, 0),
+        let call = match random.below(40) {
+            // leaves its numbers in the places that are free
+            0 => Call::new(Op::Clear, 0, 0),
+            1..=4 => Call::new(Op::Remove, k, 0),
+            5..=8 => Call::new(Op::PopFront, 0, 0),
+            9..=12 => Call::new(Op::PopBack, 0, 0),
             _ => Call::new(Op::Append, k, random.below(100) as u64),
         };
         map.call(&call, &mut [], &mut []);
@@ -99,7 +101,7 @@ fn sample(random: &mut Random) -> Map {
     *map.map()
 }
 
-// One number of the record set to another: near what it was, a place in use, or any.
+// One number of the record set to another: near what it was, a place in use, or any. Sometimes a member number too, or T.
 fn damage(m: &mut Map, random: &mut Random) {
     let any = |random: &mut Random, old: u16| match random.below(4) {
         0 => old.wrapping_add(1),
@@ -121,17 +123,16 @@ fn damage(m: &mut Map, random: &mut Random) {
             let at = (start_place(random.below(12) as u64) as usize + random.below(3)) % 512;
             &mut m.index[at]
         }
-        9 => &mut m.keys_len,
-        10 => &mut m.keys_fresh,
-        11 => &mut m.keys_free,
-        12 => &mut m.values_len,
-        13 => &mut m.values_fresh,
-        _ => &mut m.values_free,
+        9..=11 => &mut m.members[random.below(3)],
+        _ => &mut m.rounds[random.below(3)],
     };
     let new = any(random, *slot);
     *slot = new;
     if random.below(20) == 0 {
         m.keys[random.below(12)] = random.below(12) as u64;
+    }
+    if random.below(20) == 0 {
+        m.taken = random.next() as u32;
     }
 }
 

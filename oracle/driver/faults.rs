@@ -44,7 +44,7 @@ pub fn run() -> bool {
 }
 
 // Prints an input and what the crate does; and for a list what document 01 and the port answer to its last call. Does the
-// port, if it is linked, answer as document 01 says?
+// port answer as document 01 says, in each of its ways?
 fn say(input: &str, crate_does: &str, list: &[Call]) -> bool {
     println!("input:    {}", input);
     println!("crate:    {}", crate_does);
@@ -54,7 +54,7 @@ fn say(input: &str, crate_does: &str, list: &[Call]) -> bool {
         println!("document: {}", due);
         let found: Vec<String> = port::linked().iter().map(|port| last_answer(list, port.as_ref())).collect();
         agrees = found.iter().all(|found| *found == due);
-        println!("port:     {}", found.first().map_or("not linked", |found| found.as_str()));
+        println!("port:     {}", found[0]);
     }
     println!();
     agrees
@@ -62,7 +62,9 @@ fn say(input: &str, crate_does: &str, list: &[Call]) -> bool {
 
 fn last_answer(list: &[Call], port: &dyn Port) -> String {
     let mut tape = Tape::of(list);
-    port.replay(&mut tape);
+    if let Err(what) = port.replay(&mut tape) {
+        return what;
+    }
     let words = &tape.answers[4 * list.len() - 4..];
     answer_of(words).map_or(format!("{:?}", words), |answer| format!("{:?}", answer))
 }

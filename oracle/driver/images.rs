@@ -1,7 +1,7 @@
 // Byte strings read as images by the port and by `image.rs`, and the maps that they give written again.
 
 use crate::image;
-use crate::library::PortMap;
+use crate::library::{Map, PortMap};
 use crate::lists::Random;
 use crate::model::{Answer, Call, Model, Op, Pair};
 use crate::port::{untouched, words};
@@ -16,13 +16,16 @@ struct Tally {
 
 struct Reader {
     map: PortMap,
+    // what the map's arrays hold before an image is read to them, in turn
+    garbage: Vec<Map>,
     tally: Tally,
 }
 
 // Do both readings always agree?
 pub fn run(seed: u64) -> bool {
     println!("images, seed {}", seed);
-    let mut reader = Reader { map: PortMap::new(), tally: Tally::default() };
+    let garbage = (0..8).map(|turn| Map::any(&mut Random(turn))).collect();
+    let mut reader = Reader { map: PortMap::new(), garbage, tally: Tally::default() };
     let outcome = changed_images(&mut reader).and_then(|()| random_strings(&mut reader, seed));
     match &outcome {
         Ok(()) => println!("disagreements: 0"),
@@ -38,11 +41,14 @@ fn print_tally(name: &str, tally: &Tally) {
 }
 
 impl Reader {
-    // Reads the bytes on both sides, and compares answer and map; then writes the map again.
+    // Reads the bytes on both sides, for the port to arrays that hold anything, and compares answer and map; then writes the
+    // map again.
     fn read(&mut self, bytes: &[u8]) -> Result<(), String> {
         let due = image::read(bytes);
         self.tally.by[*due.as_ref().err().unwrap_or(&0) as usize] += 1;
         let answer = words(due.as_ref().map_or_else(|&number| Answer::Refused(number), |_| Answer::Done));
+        let turn = self.tally.by.iter().sum::<u64>() as usize % self.garbage.len();
+        self.map.spoil(&self.garbage[turn]);
         let found = self.map.read_image(bytes);
         if found != answer {
             return Err(format!("om_read_image answers {:?}, not {:?}, to {:?}", found, answer, bytes));
@@ -52,14 +58,14 @@ impl Reader {
     }
 
     // The map beside the lists: pairs, members, T, and whether it is well-linked.
-    fn compare(&self, model: &Model) -> Result<(), String> {
+    fn compare(&mut self, model: &Model) -> Result<(), String> {
         let (n, m) = (model.pairs.len(), model.members.len());
         let calls = [Call::iter(n + 1, n + 2), Call::lending(Op::Keys, 0, 0, m + 1), Call::new(Op::Taken, 0, 0)];
         let mut lists = model.clone();
         for call in &calls {
             let (mut out, mut out2) = (untouched(call.out), untouched(call.out2));
             let (mut due, mut due2) = (untouched(call.out), untouched(call.out2));
-            let found = self.map.read(call, &mut out, &mut out2);
+            let found = self.map.call(call, &mut out, &mut out2);
             let answer = words(lists.step(call, &mut due, &mut due2));
             if (found, &out, &out2) != (answer, &due, &due2) {
                 return Err(format!("{} says {:?} {:?} {:?}", call, found, out, out2));

@@ -1,18 +1,16 @@
-// Runs lists of calls beside the Rust crate: on document 01's steps, on the crate and, where it is linked, on the port.
+// Runs lists of calls beside the Rust crate: on document 01's steps, on the crate and on the port.
 
 mod bench;
 mod bench_cases;
 mod calls;
+mod chart;
 mod clock;
 mod compare;
 mod crate_map;
-#[cfg(port)]
 mod damage;
 mod faults;
 mod image;
-#[cfg(port)]
 mod images;
-#[cfg(port)]
 mod library;
 mod line_loads;
 mod lines;
@@ -44,9 +42,7 @@ fn main() {
         ("faults", _) => faults::run(),
         ("mixes", _) => mixes::run(),
         ("sample", _) => sample::run(words.get(1).map_or(false, |word| word == "write")),
-        #[cfg(port)]
         ("damage", Some(seed)) => damage::run(seed),
-        #[cfg(port)]
         ("images", Some(seed)) => images::run(seed),
         ("lines", _) => lines::run(words.get(1).map_or(false, |word| word == "passes")),
         ("calls", Some(seed)) => calls::run(seed),
@@ -120,11 +116,8 @@ fn print_tally(session: &Session) {
     println!("refusals by number: {}", by.join(", "));
     println!("most rounds held: {}, most members held: {}", tally.most_rounds, tally.most_members);
     println!("retains given to the crate in several passes: {}", tally.split_retains);
-    println!("lists encoded as tapes and decoded: {}", tally.decoded);
-    println!(
-        "tapes run by the port: {}, with {} calls; made one by one: {} calls",
-        tally.tapes, tally.on_port, tally.one_by_one
-    );
+    println!("tapes run by the port: {}, with {} calls", tally.tapes, tally.on_port);
+    println!("made one by one, by number and by value, with the map looked at: {} calls each", tally.one_by_one);
 }
 
 fn print_difference(difference: &Difference) {

@@ -67,6 +67,12 @@ impl Op {
         OPS[self as usize].1
     }
 
+    // Does the call change nothing?
+    pub fn reads(self) -> bool {
+        use Op::*;
+        matches!(self, Entry | Get | GetAll | EntryLen | ContainsKey | Keys | KeysLen | ValuesLen | Iter | Taken)
+    }
+
     // Has the call an out slice?
     pub fn lends(self) -> bool {
         matches!(self, Op::InsertAll | Op::RemoveAll | Op::GetAll | Op::Keys | Op::Iter)

@@ -1,5 +1,6 @@
 // Tapes of calls, and what runs them.
 
+use crate::library::{ByValue, PortMap, Tapes};
 use crate::model::{Answer, Call, Model, Op, OPS};
 
 // A tape: six numbers for each call (its number, k, v, the lengths of its out slice, its second one and its marks); all
@@ -102,17 +103,17 @@ pub fn answer_of(words: &[u64]) -> Option<Answer> {
 }
 
 // What runs a tape from an empty map: it fills the tape's slices and answers, leaves the rest as it is, and says how many
-// calls it ran.
+// calls it ran; or what went wrong that a tape does not show.
 pub trait Port {
-    fn replay(&self, tape: &mut Tape) -> u64;
+    fn replay(&self, tape: &mut Tape) -> Result<u64, String>;
 }
 
 // The model as a port.
 pub struct ModelPort;
 
 impl Port for ModelPort {
-    fn replay(&self, tape: &mut Tape) -> u64 {
-        replay_with(tape, &mut Model::default(), |model, call, out, out2| words(model.step(call, out, out2)))
+    fn replay(&self, tape: &mut Tape) -> Result<u64, String> {
+        Ok(replay_with(tape, &mut Model::default(), |model, call, out, out2| words(model.step(call, out, out2))))
     }
 }
 
@@ -120,7 +121,7 @@ impl Port for ModelPort {
 pub fn replay_with<State>(
     tape: &mut Tape,
     state: &mut State,
-    step: impl Fn(&mut State, &Call, &mut [u64], &mut [u64]) -> [u64; 4],
+    mut step: impl FnMut(&mut State, &Call, &mut [u64], &mut [u64]) -> [u64; 4],
 ) -> u64 {
     let list = tape.decode();
     let (mut out, mut out2) = (0, 0);
@@ -135,14 +136,35 @@ pub fn replay_with<State>(
     list.len() as u64
 }
 
-// The port itself, where its static library is linked (--cfg port): by its function for tapes, and by one function for each
-// call.
-#[cfg(port)]
-pub fn linked() -> Vec<Box<dyn Port>> {
-    vec![Box::new(crate::library::Tapes), Box::new(crate::library::SingleCalls)]
+// Runs a tape call by call, and looks at the whole state after each: a refused call and a read leave all of it as it was,
+// also what no call shows.
+pub struct OneByOne<State> {
+    pub new: fn() -> State,
+    pub call: fn(&mut State, &Call, &mut [u64], &mut [u64]) -> [u64; 4],
 }
 
-#[cfg(not(port))]
+impl<State: Clone + PartialEq> Port for OneByOne<State> {
+    fn replay(&self, tape: &mut Tape) -> Result<u64, String> {
+        let mut wrong = None;
+        let ran = replay_with(tape, &mut (self.new)(), |state, call, out, out2| {
+            let before = state.clone();
+            let answer = (self.call)(state, call, out, out2);
+            let refused = matches!(answer_of(&answer), Some(Answer::Refused(_)));
+            if (refused || call.op.reads()) && *state != before {
+                wrong.get_or_insert(format!("{} changes the map and answers {:?}", call, answer));
+            }
+            answer
+        });
+        wrong.map_or(Ok(ran), Err)
+    }
+}
+
+// The port: by its function for tapes, by one function for each call, by the one that takes a call's number, and by value.
 pub fn linked() -> Vec<Box<dyn Port>> {
-    Vec::new()
+    vec![
+        Box::new(Tapes),
+        Box::new(OneByOne { new: PortMap::new, call: PortMap::call }),
+        Box::new(OneByOne { new: PortMap::new, call: PortMap::call_by_number }),
+        Box::new(OneByOne { new: ByValue::new, call: ByValue::call }),
+    ]
 }

@@ -7,7 +7,7 @@ use crate::image;
 use crate::lines::{answer_chunk, Book};
 use crate::lists::{self, fnv, start_place, Random};
 use crate::model::{Answer, Call, Model, Op, MAX_ROUNDS};
-use crate::port::{answer_of, replay_with, words, ModelPort, Port, Tape};
+use crate::port::{answer_of, replay_with, words, ModelPort, OneByOne, Port, Tape};
 use crate::shrink::shrink;
 
 pub fn run() -> bool {
@@ -25,6 +25,8 @@ pub fn run() -> bool {
     ];
     checks.extend(WRONG.map(|(name, step)| (name, is_found(&|| Box::new(WrongPort(step))))));
     checks.push(("wrong: a removal leaves a gap in the index", is_found(&|| Box::new(GapPort))));
+    let unseen = |call| is_found(&|| Box::new(OneByOne { new: Unseen::default, call }));
+    checks.extend(UNSEEN.map(|(name, call)| (name, unseen(call))));
     for (name, good) in &checks {
         println!("{:50} {}", name, if *good { "good" } else { "WRONG" });
     }
@@ -122,7 +124,7 @@ fn tapes_decode() -> bool {
         Answer::Count(4),
     ];
     let untouched = Tape::of(&list);
-    same && ran == due.len() as u64
+    same && ran == Ok(due.len() as u64)
         && tape.answers == due.map(words).concat()
         && due.iter().all(|&answer| answer_of(&words(answer)) == Some(answer))
         && tape.outs[..5] == [10, 11, untouched.outs[2], 9, 7]
@@ -326,8 +328,8 @@ const WRONG: [(&str, Step); 10] = [
 struct WrongPort(Step);
 
 impl Port for WrongPort {
-    fn replay(&self, tape: &mut Tape) -> u64 {
-        replay_with(tape, &mut Model::default(), |model, call, out, out2| words((self.0)(model, call, out, out2)))
+    fn replay(&self, tape: &mut Tape) -> Result<u64, String> {
+        Ok(replay_with(tape, &mut Model::default(), |model, call, out, out2| words((self.0)(model, call, out, out2))))
     }
 }
 
@@ -367,11 +369,26 @@ impl Indexed {
 }
 
 impl Port for GapPort {
-    fn replay(&self, tape: &mut Tape) -> u64 {
+    fn replay(&self, tape: &mut Tape) -> Result<u64, String> {
         let mut indexed = Indexed { model: Model::default(), index: vec![None; 512] };
-        replay_with(tape, &mut indexed, |indexed, call, out, out2| words(indexed.step(call, out, out2)))
+        Ok(replay_with(tape, &mut indexed, |indexed, call, out, out2| words(indexed.step(call, out, out2))))
     }
 }
+
+// The model beside a number that no call shows, which changes where nothing may.
+type Unseen = (Model, u64);
+
+const UNSEEN: [(&str, fn(&mut Unseen, &Call, &mut [u64], &mut [u64]) -> [u64; 4]); 2] = [
+    ("wrong: a refused call changes what none shows", |(model, number), call, out, out2| {
+        let answer = model.step(call, out, out2);
+        *number += matches!(answer, Answer::Refused(_)) as u64;
+        words(answer)
+    }),
+    ("wrong: keys changes what none shows", |(model, number), call, out, out2| {
+        *number += (call.op == Op::Keys) as u64;
+        words(model.step(call, out, out2))
+    }),
+];
 
 // Does the comparison find a port that is wrong, and shrink the list that shows it?
 fn is_found(wrong: &dyn Fn() -> Box<dyn Port>) -> bool {

@@ -2,7 +2,7 @@
 // each; every number lowest byte first.
 
 use crate::ffi::Map;
-use crate::{ListOrderedMultimap, Refused, MEMBERS, ROUNDS};
+use crate::{ListOrderedMultimap, Refused, ROUNDS};
 use std::fs::{self, File, OpenOptions};
 use std::io::{self, Read, Write};
 use std::path::{Path, PathBuf};
@@ -26,10 +26,7 @@ impl ListOrderedMultimap {
     /// ```
     #[must_use]
     pub fn to_bytes(&self) -> Vec<u8> {
-        let mut out = vec![0; MOST_BYTES];
-        let count = self.map.write_image(&mut out).count();
-        out.truncate(count as usize);
-        out
+        self.map.write_image()
     }
 
     /// The map of an image: the same pairs, the keys in the order of their first values, and as many values taken in as
@@ -50,29 +47,6 @@ impl ListOrderedMultimap {
         let (map, answer) = Map::read_image(bytes);
         answer.accepted()?.done();
         Ok(ListOrderedMultimap { map })
-    }
-
-    /// The map of these pairs, as if each were appended to an empty one, by way of an image: the fastest way to post
-    /// many values. Where one of the appends would be refused, by 1 or 2, there is no map.
-    ///
-    /// ```
-    /// use prelgammo::{ListOrderedMultimap, Refused};
-    ///
-    /// let map = ListOrderedMultimap::from_pairs(&[(7, 10), (9, 20), (7, 11)])?;
-    /// assert!(map.get_all(&7).eq([10, 11]));
-    /// assert_eq!(ListOrderedMultimap::from_pairs(&[(7, 10); 1025]), Err(Refused::Full));
-    /// # Ok::<(), prelgammo::Refused>(())
-    /// ```
-    pub fn from_pairs(pairs: &[(u64, u64)]) -> Result<ListOrderedMultimap, Refused> {
-        let within = &pairs[..pairs.len().min(ROUNDS)];
-        let members = distinct(within);
-        if members > MEMBERS {
-            return Err(Refused::Crowded);
-        }
-        if pairs.len() > ROUNDS {
-            return Err(Refused::Full);
-        }
-        ListOrderedMultimap::from_bytes(&layout(pairs, members))
     }
 
     /// Writes the image to a file, whole or not at all: to a new file beside it first, which then takes its name.
@@ -120,22 +94,6 @@ impl ListOrderedMultimap {
         File::open(path)?.take(MOST_BYTES as u64 + 1).read_to_end(&mut bytes)?;
         ListOrderedMultimap::from_bytes(&bytes).map_err(|refused| io::Error::new(io::ErrorKind::InvalidData, refused))
     }
-}
-
-fn distinct(pairs: &[(u64, u64)]) -> usize {
-    let mut keys: Vec<u64> = pairs.iter().map(|pair| pair.0).collect();
-    keys.sort_unstable();
-    keys.dedup();
-    keys.len()
-}
-
-fn layout(pairs: &[(u64, u64)], members: usize) -> Vec<u8> {
-    let mut bytes = Vec::with_capacity(8 + 16 * pairs.len());
-    bytes.extend((pairs.len() as u32).to_le_bytes());
-    bytes.extend((members as u32).to_le_bytes());
-    bytes.extend(pairs.iter().flat_map(|pair| pair.0.to_le_bytes()));
-    bytes.extend(pairs.iter().flat_map(|pair| pair.1.to_le_bytes()));
-    bytes
 }
 
 fn folder(path: &Path) -> &Path {

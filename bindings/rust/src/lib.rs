@@ -3,8 +3,8 @@
 //!
 //! [`ListOrderedMultimap`] has the names and shapes of `ListOrderedMultimap<u64, u64>` of the crate ordered-multimap
 //! 0.7.3. Its calls are done by a library in Rattle that is proved to do what the scope document ("document 01")
-//! says, on every input; what this package adds is the way to it. `docs/MIGRATION.md` has a program before and after
-//! the move.
+//! says, on every input; what this package adds is the way to it, and the walk along the record that shows each pair to
+//! the function of [`ListOrderedMultimap::retain`]. `docs/MIGRATION.md` has a program before and after the move.
 //!
 //! ```
 //! use prelgammo::ListOrderedMultimap;
@@ -34,16 +34,15 @@
 //!
 //! # Cost
 //!
-//! The map is one record of 24,096 bytes in a box. The library's functions take it by value, so every call, a read
-//! too, copies it to the stack; that is the calling convention's and cannot be avoided here. A changed map is written
-//! straight to the box. Inside, the library makes copies of its own. So a call of one value costs microseconds where
-//! the crate follows a few pointers; calls over many values take between a tenth and three times the crate's time
-//! (`docs/BENCHMARKS.md`). For many values at once there is [`ListOrderedMultimap::from_pairs`].
+//! The map is one record of 24,096 bytes in a box. The library is lent its arrays and changes them where they stand: no
+//! call copies the map, and none allocates, save for the vectors that iterators own. Most calls take less time than the
+//! crate's (`docs/BENCHMARKS.md`). [`ListOrderedMultimap::new`] takes more, since it writes the whole record; that then
+//! never grows.
 //!
 //! # Threads
 //!
-//! A map is plain numbers: it can be sent to other threads and read from several at once. The copies of a call need up
-//! to 256 KB of stack. A thread has 2 MiB unless it is made with another size; 512 KiB are enough.
+//! A map is plain numbers: it can be sent to other threads and read from several at once. A thread has 2 MiB of stack
+//! unless it is made with another size; 128 KiB are enough for every call.
 //!
 //! ```
 //! fn shared<T: Send + Sync>() {}

@@ -1,5 +1,5 @@
 use crate::ffi::{Map, Record};
-use crate::{Entry, KeyWrapper, OccupiedEntry, Refused, VacantEntry, MEMBERS, ROUNDS};
+use crate::{Entry, KeyWrapper, OccupiedEntry, Refused, VacantEntry, ROUNDS};
 use std::{fmt, iter, vec};
 
 /// The values of a key, in order.
@@ -18,17 +18,6 @@ pub type Iter = iter::Zip<vec::IntoIter<u64>, vec::IntoIter<u64>>;
 #[derive(Clone)]
 pub struct ListOrderedMultimap {
     pub(crate) map: Map,
-}
-
-// Room for as many numbers as a call may write.
-fn room(most: usize) -> Vec<u64> {
-    vec![0; most]
-}
-
-// Of what a call was lent, that which it wrote.
-fn written(mut out: Vec<u64>, count: u64) -> vec::IntoIter<u64> {
-    out.truncate(count as usize);
-    out.into_iter()
 }
 
 impl ListOrderedMultimap {
@@ -160,9 +149,7 @@ impl ListOrderedMultimap {
     /// ```
     #[must_use]
     pub fn get_all(&self, key: &u64) -> EntryValues {
-        let mut out = room(ROUNDS);
-        let count = self.map.get_all(*key, &mut out).count();
-        written(out, count)
+        self.map.get_all(*key).into_iter()
     }
 
     /// Replaces all values of the key by one, which goes to the back of the map, and gives the first of the old ones. A
@@ -198,9 +185,8 @@ impl ListOrderedMultimap {
     /// # Ok::<(), prelgammo::Refused>(())
     /// ```
     pub fn insert_all(&mut self, key: u64, value: u64) -> Result<EntryValuesDrain, Refused> {
-        let mut out = room(ROUNDS);
-        let answer = self.map.insert_all(key, value, &mut out).accepted()?;
-        Ok(written(out, answer.count()))
+        let old = self.map.insert_all(key, value)?;
+        Ok(old.into_iter())
     }
 
     /// All pairs, in the order in which they were added.
@@ -217,9 +203,8 @@ impl ListOrderedMultimap {
     /// # Ok::<(), prelgammo::Refused>(())
     /// ```
     pub fn iter(&self) -> Iter {
-        let (mut keys, mut values) = (room(ROUNDS), room(ROUNDS));
-        let count = self.map.iter(&mut keys, &mut values).count();
-        written(keys, count).zip(written(values, count))
+        let (keys, values) = self.map.iter();
+        keys.into_iter().zip(values)
     }
 
     /// The keys, in the order in which they joined the map.
@@ -236,9 +221,7 @@ impl ListOrderedMultimap {
     /// ```
     #[must_use]
     pub fn keys(&self) -> Keys {
-        let mut out = room(MEMBERS);
-        let count = self.map.keys(&mut out).count();
-        written(out, count)
+        self.map.keys().into_iter()
     }
 
     /// The number of keys.
@@ -335,9 +318,7 @@ impl ListOrderedMultimap {
     /// # Ok::<(), prelgammo::Refused>(())
     /// ```
     pub fn remove_all(&mut self, key: &u64) -> EntryValuesDrain {
-        let mut out = room(ROUNDS);
-        let count = self.map.remove_all(*key, &mut out).count();
-        written(out, count)
+        self.map.remove_all(*key).into_iter()
     }
 
     /// Keeps the pairs for which the function says true, and gives their number. The function is called for each pair
@@ -358,8 +339,19 @@ impl ListOrderedMultimap {
     where
         Function: FnMut(&u64, &u64) -> bool,
     {
-        let marks: Vec<u8> = self.iter().map(|(key, value)| function(&key, &value) as u8).collect();
-        self.map.retain(&marks).count() as usize
+        let mut marks = [0; ROUNDS];
+        let marks = &mut marks[..self.values_len()];
+        // Asks for each pair on the way along the list, which begins after the place ROUNDS; `iter` would take as long again.
+        let (record, mut place) = (self.map.record(), ROUNDS);
+        for mark in &mut *marks {
+            place = record.next_value[place] as usize;
+            let key = record.key_index[place] as usize;
+            *mark = function(&record.keys[key], &record.values[place]) as u8;
+        }
+        if !marks.contains(&0) {
+            return marks.len();
+        }
+        self.map.retain(marks).count() as usize
     }
 
     /// The number of values ever added, up to 4,294,967,295. No call makes it smaller.
@@ -393,6 +385,25 @@ impl ListOrderedMultimap {
     #[must_use]
     pub fn values_len(&self) -> usize {
         self.map.values_len().count() as usize
+    }
+
+    /// The map of these pairs, as if each were appended to an empty one. Where one of the appends would be refused, by 1 or
+    /// 2, there is no map.
+    ///
+    /// ```
+    /// use prelgammo::{ListOrderedMultimap, Refused};
+    ///
+    /// let map = ListOrderedMultimap::from_pairs(&[(7, 10), (9, 20), (7, 11)])?;
+    /// assert!(map.get_all(&7).eq([10, 11]));
+    /// assert_eq!(ListOrderedMultimap::from_pairs(&[(7, 10); 1025]), Err(Refused::Full));
+    /// # Ok::<(), prelgammo::Refused>(())
+    /// ```
+    pub fn from_pairs(pairs: &[(u64, u64)]) -> Result<ListOrderedMultimap, Refused> {
+        let mut map = ListOrderedMultimap::new();
+        for &(key, value) in pairs {
+            map.append(key, value)?;
+        }
+        Ok(map)
     }
 
     /// The map of a record that C code gave, or none if the record is not well-linked.

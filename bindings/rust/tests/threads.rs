@@ -6,7 +6,7 @@ use common::{same, Model};
 use prelgammo::{Entry, ListOrderedMultimap};
 use std::thread;
 
-const STACK: usize = 512 * 1024;
+const STACK: usize = 128 * 1024;
 
 // Every call on a full map.
 fn work(start: u64) -> ListOrderedMultimap {
