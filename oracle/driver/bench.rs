@@ -46,7 +46,7 @@ impl Row {
 
     // How many copies of the record the call by value takes longer than the crate's.
     fn copies(&self, copy: &CopyTime) -> Option<f64> {
-        self.by_value.zip(self.on_crate).map(|(by_value, on_crate)| (by_value - on_crate) / copy.along)
+        self.by_value.zip(self.on_crate).map(|(by_value, on_crate)| (by_value - on_crate) / copy.between)
     }
 
     // Is the aim by value met?
