@@ -51,7 +51,7 @@ recordWith a nk pk ki nv pv ni pi =
       taken = a .taken;
     }
 
-packed : (a : Arrays) (nk pk ki : List KeyPlace) (nv pv ni pi : List ValuePlace)
+pub packed : (a : Arrays) (nk pk ki : List KeyPlace) (nv pv ni pi : List ValuePlace)
     → nk ≡ map keyPlace (a .«next_key») → pk ≡ map keyPlace (a .«previous_key») → ki ≡ map keyPlace (a .«key_index»)
     → nv ≡ map valuePlace (a .«next_value») → pv ≡ map valuePlace (a .«previous_value»)
     → ni ≡ map valuePlace (a .«next_index») → pi ≡ map valuePlace (a .«previous_index»)
