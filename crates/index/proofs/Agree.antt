@@ -85,7 +85,7 @@ unfolding FoundIn
 found-in (At q k n) p e = (k, n, ap (λ (x : ℕ). At x k n) e)
 found-in (Absent q n) p e = absurd e
 
-found-key : (r : Found) (l : ℕ) → FoundKey l r → (p : ℕ) × (k : KeyPlace) × (n : ℕ) × (r ≡ At p k n) × (k .0 ≡ l)
+pub found-key : (r : Found) (l : ℕ) → FoundKey l r → (p : ℕ) × (k : KeyPlace) × (n : ℕ) × (r ≡ At p k n) × (k .0 ≡ l)
 unfolding FoundKey
 found-key (At q k n) l e = (q, k, n, refl, e)
 found-key (Absent q n) l e = absurd e

@@ -6,4 +6,3 @@ pub mod Fill
 pub mod Linking
 pub mod Chaining
 pub mod Whole
-pub mod Represents
