@@ -7,7 +7,7 @@ use borrow.Author.Tests.{lt-ltb, le-ltb}
 use lib.ListN.{length, set, length-map}
 use Rattle.steps.specs.Call.{refused, count}
 use Rattle.steps.specs.Step.{write, over}
-use Rattle.links.specs.Path.{walk}
+use Rattle.links.specs.Route.{walk}
 use Rattle.links.specs.Stores.{at}
 use Rattle.links.proofs.Lists.{length-walk}
 use Rattle.multimap.proofs.Copies.{Copied, beyond, walk-way, copied-start, copied-more, copied-all, copied-long}

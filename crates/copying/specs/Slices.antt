@@ -5,7 +5,7 @@ use mathlib.Core.List.{List, map}
 use lib.ListN.{length}
 use Rattle.steps.specs.Call.{Outcome, refused, count}
 use Rattle.steps.specs.Step.{short, write, over}
-use Rattle.links.specs.Path.{walk}
+use Rattle.links.specs.Route.{walk}
 use Rattle.links.specs.Stores.{at}
 
 -- n of the values, at the place `first` and on along the links

@@ -11,8 +11,8 @@ use Rattle.steps.specs.State.{Pair}
 use Rattle.steps.specs.Accounting.{times}
 use Rattle.steps.specs.Marked.{firsts}
 use Rattle.steps.proofs.Keeps.{Once, once-add}
-use Rattle.links.specs.Path.{count, one}
-use Rattle.links.proofs.Paths.{Split, split-at, count-same, count-append}
+use Rattle.links.specs.Route.{tally, bit}
+use Rattle.links.proofs.Routes.{Split, split-at, tally-same, tally-append}
 use Rattle.multimap.specs.Arrays.{Arrays}
 use Rattle.multimap.specs.Map.{pairs, members}
 use Rattle.multimap.specs.WellLinked.{WellLinked}
@@ -27,13 +27,13 @@ firsts-once met qs (p ∷ ps) o =
     (once-add (p .key) (p .value) met qs qs o (λ j e. refl)))
 
 -- lists in which each number stands equally often are equally long
-same-length : (xs ys : List ℕ) → ((q : ℕ) → count q xs ≡ count q ys) → length xs ≡ length ys
+same-length : (xs ys : List ℕ) → ((q : ℕ) → tally q xs ≡ tally q ys) → length xs ≡ length ys
 same-length [] [] h = refl
-same-length [] (y ∷ ys) h = absurd (omega (arith, h y, count-same y ys))
+same-length [] (y ∷ ys) h = absurd (omega (arith, h y, tally-same y ys))
 same-length (x ∷ xs) ys h =
-    let s : Split x ys = split-at x ys (omega (arith, h x, count-same x xs)) in
-    let rest : (q : ℕ) → count q xs ≡ count q (s .front ++ s .back) =
-    λ q. omega (arith, h q, ap (count q) (s .whole), count-append q (s .front) (x ∷ s .back), count-append q (s .front) (s .back)) in
+    let s : Split x ys = split-at x ys (omega (arith, h x, tally-same x xs)) in
+    let rest : (q : ℕ) → tally q xs ≡ tally q (s .front ++ s .back) =
+    λ q. omega (arith, h q, ap (tally q) (s .whole), tally-append q (s .front) (x ∷ s .back), tally-append q (s .front) (s .back)) in
     omega (
       arith,
       same-length xs (s .front ++ s .back) rest,
@@ -42,16 +42,16 @@ same-length (x ∷ xs) ys h =
       length-append (s .front) (s .back),
     )
 
-times-count : (q : ℕ) (xs : List ℕ) → times (eqb q) xs ≡ count q xs
-times-count q [] = refl
-times-count q (x ∷ xs) = go (eqb q x) (times-count q xs)
+times-tally : (q : ℕ) (xs : List ℕ) → times (eqb q) xs ≡ tally q xs
+times-tally q [] = refl
+times-tally q (x ∷ xs) = go (eqb q x) (times-tally q xs)
   where
-    go : (b : Bool) → times (eqb q) xs ≡ count q xs → length (cond b (x ∷ filter (eqb q) xs) (filter (eqb q) xs)) ≡ one b + count q xs
+    go : (b : Bool) → times (eqb q) xs ≡ tally q xs → length (cond b (x ∷ filter (eqb q) xs) (filter (eqb q) xs)) ≡ bit b + tally q xs
     go true e = omega arith
     go false e = omega arith
 
 once-length : (ks js : List ℕ) (ps : List Pair) → Once ks ps → Once js ps → length ks ≡ length js
-once-length ks js ps o p = same-length ks js (λ q. sym (times-count q ks) ∙ o q ∙ sym (p q) ∙ times-count q js)
+once-length ks js ps o p = same-length ks js (λ q. sym (times-tally q ks) ∙ o q ∙ sym (p q) ∙ times-tally q js)
 
 pub members-counted : (m : Arrays) → WellLinked m → length (members m) ≡ length (firsts [] (pairs m))
 members-counted m g = once-length (members m) (firsts [] (pairs m)) (pairs m) (represents m g .once) (firsts-once [] [] (pairs m) (λ k. refl))

@@ -12,7 +12,7 @@ use Rattle.steps.specs.State.{State, Pair, empty}
 use Rattle.steps.specs.Marked.{firsts, start}
 use Rattle.steps.specs.Call.{Answer, refused, done}
 use Rattle.steps.specs.Coded.{coded}
-use Rattle.links.proofs.Paths.{same-or-not}
+use Rattle.links.proofs.Routes.{same-or-not}
 use Rattle.multimap.specs.Arrays.{Arrays}
 use Rattle.multimap.specs.Map.{at, stateOf}
 use Rattle.multimap.specs.WellLinked.{WellLinked}

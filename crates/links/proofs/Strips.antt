@@ -6,8 +6,8 @@ use mathlib.Core.List.{List, [], _∷_}
 use native.Mathlib.Omega.{arith}
 use borrow.Author.Tests.{eq-eqb, ne-eqb}
 use lib.Dec.{eqb}
-use Rattle.links.specs.Path.{pick, one, count, keep, without, strip}
-use Rattle.links.proofs.Paths.{keep-all, keep-same, count-keep}
+use Rattle.links.specs.Route.{pick, bit, tally, keep, without, strip}
+use Rattle.links.proofs.Routes.{keep-all, keep-same, tally-keep}
 
 keep-fuse : (f g : ℕ → Bool) (xs : List ℕ) → keep f (keep g xs) ≡ keep (λ q. g q && f q) xs
 keep-fuse f g [] = refl
@@ -19,23 +19,23 @@ keep-fuse f g (x ∷ xs) = go (g x) (keep-fuse f g xs)
     go false e = e
 
 -- a list without the places ws: those that ws does not have
-pub strip-keep : (ws vs : List ℕ) → strip ws vs ≡ keep (λ q. eqb (count q ws) 0) vs
+pub strip-keep : (ws vs : List ℕ) → strip ws vs ≡ keep (λ q. eqb (tally q ws) 0) vs
 strip-keep [] vs = sym (keep-all (λ q. true) vs (λ q i. refl))
 strip-keep (w ∷ ws) vs =
-    strip-keep ws (without w vs) ∙ keep-fuse (λ q. eqb (count q ws) 0) (λ q. not (eqb q w)) vs
-    ∙ keep-same (λ q. not (eqb q w) && eqb (count q ws) 0) (λ q. eqb (count q (w ∷ ws)) 0) vs (λ q i. go q (eqb q w))
+    strip-keep ws (without w vs) ∙ keep-fuse (λ q. eqb (tally q ws) 0) (λ q. not (eqb q w)) vs
+    ∙ keep-same (λ q. not (eqb q w) && eqb (tally q ws) 0) (λ q. eqb (tally q (w ∷ ws)) 0) vs (λ q i. go q (eqb q w))
   where
-    go : (q : ℕ) (b : Bool) → (not b && eqb (count q ws) 0) ≡ eqb (one b + count q ws) 0
-    go q true = sym (ne-eqb (1 + count q ws) 0 (λ e. omega arith))
-    go q false = let z : 0 + count q ws ≡ count q ws = omega arith in rw z
+    go : (q : ℕ) (b : Bool) → (not b && eqb (tally q ws) 0) ≡ eqb (bit b + tally q ws) 0
+    go q true = sym (ne-eqb (1 + tally q ws) 0 (λ e. omega arith))
+    go q false = let z : 0 + tally q ws ≡ tally q ws = omega arith in rw z
 
 -- the places that pass a test taken out: those that don't pass it
 pub strip-those : (f : ℕ → Bool) (vs : List ℕ) → strip (keep f vs) vs ≡ keep (λ q. not (f q)) vs
-strip-those f vs = strip-keep (keep f vs) vs ∙ keep-same (λ q. eqb (count q (keep f vs)) 0) (λ q. not (f q)) vs (λ q i. go q i (f q) (count-keep f q vs))
+strip-those f vs = strip-keep (keep f vs) vs ∙ keep-same (λ q. eqb (tally q (keep f vs)) 0) (λ q. not (f q)) vs (λ q i. go q i (f q) (tally-keep f q vs))
   where
-    go : (q : ℕ) → 0 < count q vs → (b : Bool) → count q (keep f vs) ≡ pick b (count q vs) 0 → eqb (count q (keep f vs)) 0 ≡ not b
-    go q i true e = ne-eqb (count q (keep f vs)) 0 (λ z. omega arith)
-    go q i false e = eq-eqb (count q (keep f vs)) 0 e
+    go : (q : ℕ) → 0 < tally q vs → (b : Bool) → tally q (keep f vs) ≡ pick b (tally q vs) 0 → eqb (tally q (keep f vs)) 0 ≡ not b
+    go q i true e = ne-eqb (tally q (keep f vs)) 0 (λ z. omega arith)
+    go q i false e = eq-eqb (tally q (keep f vs)) 0 e
 
 pub keep-neither : (f : ℕ → Bool) (xs : List ℕ) → keep f (keep (λ q. not (f q)) xs) ≡ []
 keep-neither f [] = refl

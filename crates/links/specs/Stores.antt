@@ -4,7 +4,7 @@ use mathlib.Core.Path.{_≡_}
 use mathlib.Core.List.{List, [], _∷_}
 use lib.Dec.{eqb}
 use lib.ListN.{getD, set}
-use Rattle.links.specs.Path.{pick}
+use Rattle.links.specs.Route.{pick}
 
 -- what stands at q, 0 past the end
 abbrev pub at : List ℕ → ℕ → ℕ

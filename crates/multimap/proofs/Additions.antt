@@ -6,7 +6,7 @@ use native.Mathlib.Omega.{arith}
 use lib.Dec.{eqb}
 use lib.ListN.{set, length-set}
 use Rattle.links.specs.Stores.{up, spot}
-use Rattle.links.specs.Path.{pick}
+use Rattle.links.specs.Route.{pick}
 use Rattle.links.specs.Places.{put, Places, vacancy, Linked}
 use Rattle.links.specs.Links.{Links, Chained, added, joined}
 use Rattle.multimap.specs.Arrays.{Arrays, Sized}

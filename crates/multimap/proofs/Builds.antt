@@ -7,12 +7,12 @@ use native.Mathlib.Omega.{arith}
 use lib.ListN.{length, length-append}
 use lib.Seq.{getD-set-same, getD-set-other}
 use Rattle.steps.specs.State.{maxMembers, maxRounds}
-use Rattle.links.specs.Path.{count}
+use Rattle.links.specs.Route.{tally}
 use Rattle.links.specs.Places.{order, vacancy}
 use Rattle.links.specs.Links.{Links, Chained, added, joined}
 use Rattle.links.specs.Stores.{spot}
 use Rattle.links.proofs.Puts.{put-hit, put-miss}
-use Rattle.links.proofs.Paths.{same-or-not, count-append, count-same, count-other}
+use Rattle.links.proofs.Routes.{same-or-not, tally-append, tally-same, tally-other}
 use Rattle.links.proofs.Lists.{in-array, first-fits, last-fits, vacancy-fits, length-order}
 use Rattle.links.proofs.Chains.{added-order, added-off, added-chained, tail-fits, size-in, joined-order, joined-off, joined-chained}
 use Rattle.index.specs.Table.{Holds, Vacant}
@@ -25,12 +25,12 @@ use Rattle.multimap.specs.Map.{at, pairAt, pairs, members, roundsOf, mem
 use Rattle.multimap.specs.Arrays.{Arrays}
 use Rattle.multimap.specs.Changes.{withMember, withRound}
 use Rattle.multimap.specs.Sweep.{Sound}
-use Rattle.multimap.proofs.Stores.{map-same, map-append, mem-count, count-mem}
+use Rattle.multimap.proofs.Stores.{map-same, map-append, mem-tally, tally-mem}
 use Rattle.multimap.proofs.Additions as A
 
 -- ---- a round of the member place `key`
 
-module _ (m : Arrays) (g : Sound m) (key : ℕ) (here : 0 < count key (order (membersOf m))) (room : at (m .rounds) 0 < maxRounds) where
+module _ (m : Arrays) (g : Sound m) (key : ℕ) (here : 0 < tally key (order (membersOf m))) (room : at (m .rounds) 0 < maxRounds) where
   -- where the stores go
   pub key-fits : key < 256
   key-fits = in-array (membersOf m) (g .chained .members) key here
@@ -64,10 +64,10 @@ module _ (m : Arrays) (g : Sound m) (key : ℕ) (here : 0 < count key (order (me
     pub round-order : order (roundsOf (withRound m key v)) ≡ order (roundsOf m) ++ (spot (m .rounds) ∷ [])
     round-order = ap (λ (c : Links). order (c .rounds)) round-links ∙ added-order (linksOf m) (g .chained) key here room
 
-    off-x : (q : ℕ) → 0 < count q vs → q ≢ x
+    off-x : (q : ℕ) → 0 < tally q vs → q ≢ x
     off-x q i j = added-off (linksOf m) (g .chained) key here room q i j
 
-    pair-old : (q : ℕ) → 0 < count q vs → pairAt r q ≡ pairAt m q
+    pair-old : (q : ℕ) → 0 < tally q vs → pairAt r q ≡ pairAt m q
     pair-old q i =
         rw (
           ap (λ (c : Links). at (m .keys) (c .key q)) round-links
@@ -103,12 +103,12 @@ pub record Admits (m : Arrays) (k p : ℕ) : Type 0 where
   pub sound : Sound m
   pub spare : at (m .members) 0 < maxMembers
   pub vacant : Vacant (m .index) k p
-  pub new : (j : ℕ) → 0 < count j (order (membersOf m)) → at (m .keys) j ≢ k
+  pub new : (j : ℕ) → 0 < tally j (order (membersOf m)) → at (m .keys) j ≢ k
 
 pub admits : (m : Arrays) → Sound m → at (m .members) 0 < maxMembers → (k p n : ℕ) → search (m .index) (m .keys) k ≡ Absent p n → Admits m k p
 admits m g spare k p n e =
     let w = says-absent (m .index) (m .keys) (order (membersOf m)) k (g .index) p n e in
-    record { sound = g; spare = spare; vacant = w .0; new = λ j i. w .1 j (count-mem j (order (membersOf m)) i) }
+    record { sound = g; spare = spare; vacant = w .0; new = λ j i. w .1 j (tally-mem j (order (membersOf m)) i) }
 
 module _ (m : Arrays) (k p : ℕ) (h : Admits m k p) where
   abbrev g : Sound m
@@ -130,7 +130,7 @@ module _ (m : Arrays) (k p : ℕ) (h : Admits m k p) where
   pub member-fits : spot (m .members) < 256
   member-fits = vacancy-fits (membersOf m) (g .chained .members) (h .spare)
 
-  off : (j : ℕ) → 0 < count j ks → j ≢ key
+  off : (j : ℕ) → 0 < tally j ks → j ≢ key
   off j i e = joined-off (linksOf m) (g .chained) (h .spare) j i e
 
   pub member-links : linksOf (withMember m k p) ≡ joined (linksOf m)
@@ -139,36 +139,36 @@ module _ (m : Arrays) (k p : ℕ) (h : Admits m k p) where
   pub member-order : order (membersOf (withMember m k p)) ≡ order (membersOf m) ++ (spot (m .members) ∷ [])
   member-order = ap (λ (c : Links). order (c .members)) member-links ∙ joined-order (linksOf m) (g .chained) (h .spare)
 
-  pub old-or-new : (j : ℕ) → 0 < count j (order (membersOf (withMember m k p)))
-      → (j ≡ spot (m .members)) ⊎ (0 < count j (order (membersOf m)))
+  pub old-or-new : (j : ℕ) → 0 < tally j (order (membersOf (withMember m k p)))
+      → (j ≡ spot (m .members)) ⊎ (0 < tally j (order (membersOf m)))
   old-or-new j i =
-      ⊎-elim (λ e. inl e) (λ e. inr (omega (arith, ap (count j) member-order, count-append j ks (key ∷ []), count-other j key [] e)))
+      ⊎-elim (λ e. inl e) (λ e. inr (omega (arith, ap (tally j) member-order, tally-append j ks (key ∷ []), tally-other j key [] e)))
       (same-or-not j key)
 
-  pub member-here : 0 < count (spot (m .members)) (order (membersOf (withMember m k p)))
-  member-here = omega (arith, ap (count key) member-order, count-append key ks (key ∷ []), count-same key [])
+  pub member-here : 0 < tally (spot (m .members)) (order (membersOf (withMember m k p)))
+  member-here = omega (arith, ap (tally key) member-order, tally-append key ks (key ∷ []), tally-same key [])
 
   pub member-number : at (withMember m k p .keys) (spot (m .members)) ≡ k
   member-number = getD-set-same (m .keys) key k 0 (rw (g .sized .keys) member-fits)
 
-  number-old : (j : ℕ) → 0 < count j ks → at (o .keys) j ≡ at (m .keys) j
+  number-old : (j : ℕ) → 0 < tally j ks → at (o .keys) j ≡ at (m .keys) j
   number-old j i = getD-set-other (m .keys) key j k 0 (off j i)
 
   holds : Holds (o .index) (o .keys) (order (membersOf o))
   holds =
       let to : (j : ℕ) → List·Memᴰ j (key ∷ ks) → List·Memᴰ j (order (membersOf o)) =
-      λ j i. count-mem j (order (membersOf o))
+      λ j i. tally-mem j (order (membersOf o))
       (⊎-elim (λ (e : j ≡ key). rw e member-here)
-      (λ (i′ : List·Memᴰ j ks). omega (arith, ap (count j) member-order, count-append j ks (key ∷ []), mem-count j ks i′))
+      (λ (i′ : List·Memᴰ j ks). omega (arith, ap (tally j) member-order, tally-append j ks (key ∷ []), mem-tally j ks i′))
       (List·Memᴰ·cases-cons i)) in
       let back : (j : ℕ) → List·Memᴰ j (order (membersOf o)) → List·Memᴰ j (key ∷ ks) =
-      λ j i. ⊎-elim (λ e. List·Memᴰ·head e) (λ i′. List·Memᴰ·tail (count-mem j ks i′)) (old-or-new j (mem-count j (order (membersOf o)) i)) in
-      let kept : Holds (m .index) (o .keys) ks = reread (λ j i. sym (number-old j (mem-count j ks i))) (g .index) in
+      λ j i. ⊎-elim (λ e. List·Memᴰ·head e) (λ i′. List·Memᴰ·tail (tally-mem j ks i′)) (old-or-new j (mem-tally j (order (membersOf o)) i)) in
+      let kept : Holds (m .index) (o .keys) ks = reread (λ j i. sym (number-old j (mem-tally j ks i))) (g .index) in
       let long : length ks < 256 = rw (length-order (membersOf m)) (h .spare) in
       let apart : (j : ℕ) → List·Memᴰ j ks → at (o .keys) j ≡ at (o .keys) key → ⊥ =
-      λ j i e. h .new j (mem-count j ks i) (sym (number-old j (mem-count j ks i)) ∙ e ∙ member-number) in
+      λ j i e. h .new j (mem-tally j ks i) (sym (number-old j (mem-tally j ks i)) ∙ e ∙ member-number) in
       relist (rw (member-order, length-append) (omega (arith, long))) to back
-      (index-added (m .index) (o .keys) ks p key kept long member-fits (λ i. off key (mem-count key ks i) refl) apart
+      (index-added (m .index) (o .keys) ks p key kept long member-fits (λ i. off key (mem-tally key ks i) refl) apart
       (rw member-number (h .vacant)))
 
   pub member-sound : Sound (withMember m k p)

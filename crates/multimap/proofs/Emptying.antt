@@ -11,10 +11,10 @@ use lib.ListN.{length, length-map}
 use Rattle.steps.specs.Lists.{filter}
 use Rattle.steps.specs.State.{of, rounds, others, leave}
 use Rattle.steps.proofs.Filter.{length-split}
-use Rattle.links.specs.Path.{count, keep, without, strip}
+use Rattle.links.specs.Route.{tally, keep, without, strip}
 use Rattle.links.specs.Places.{order}
 use Rattle.links.specs.Links.{recordIn, recordOf}
-use Rattle.links.proofs.Paths.{Split, split-at, keep-same, keep-inside}
+use Rattle.links.proofs.Routes.{Split, split-at, keep-same, keep-inside}
 use Rattle.links.proofs.Strips.{keep-neither, strip-those}
 use Rattle.links.proofs.Chains.{in-record, of-without}
 use Rattle.multimap.specs.Map.{at, pairAt, pairs, members, roundsOf, membersOf, linksOf}

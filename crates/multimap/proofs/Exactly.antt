@@ -13,10 +13,10 @@ use Rattle.steps.specs.Lists.{filter, any}
 use Rattle.steps.specs.State.{Pair, of, has, maxTaken}
 use Rattle.steps.specs.Accounting.{times}
 use Rattle.steps.proofs.Filter.{any-one}
-use Rattle.links.specs.Path.{one, count, keep, walk, Path}
+use Rattle.links.specs.Route.{bit, tally, keep, walk, Route}
 use Rattle.links.specs.Places.{Places, order, freed, Linked}
 use Rattle.links.specs.Links.{Chained, recordIn}
-use Rattle.links.proofs.Paths.{same-or-not, count-append, count-hit, count-other, keep-same, path-walk, split-at}
+use Rattle.links.proofs.Routes.{same-or-not, tally-append, tally-hit, tally-other, keep-same, route-walk, split-at}
 use Rattle.links.proofs.Lists.{length-walk, length-order, in-array}
 use Rattle.index.specs.declared.KeyPlace.{KeyPlace}
 use Rattle.index.specs.declared.Found.{Found}
@@ -33,29 +33,29 @@ use Rattle.multimap.specs.Map.{at, pairAt, pairs, members, roundsOf, mem
 use Rattle.multimap.specs.WellLinked.{WellLinked}
 use Rattle.multimap.specs.Arrays.{Arrays}
 use Rattle.multimap.specs.Represents.{InUse, LeadsTo, Represents, Represented}
-use Rattle.multimap.proofs.Stores.{any-some, mem-count, count-mem}
+use Rattle.multimap.proofs.Stores.{any-some, mem-tally, tally-mem}
 use Rattle.multimap.proofs.Records.{filter-map, same-number, places-are, member-at}
 use Rattle.multimap.proofs.Represents as proper
 
 -- ---- places in use and freed
 
 -- n numbers among which each below n is: each of these stands once, and no other
-covered : (n : ℕ) (xs : List ℕ) → ((q : ℕ) → q < n → 0 < count q xs) → length xs ≡ n → (q : ℕ) → count q xs ≡ one (ltb q n)
-covered zero [] h e q = sym (ap one (le-ltb q 0 (omega arith)))
+covered : (n : ℕ) (xs : List ℕ) → ((q : ℕ) → q < n → 0 < tally q xs) → length xs ≡ n → (q : ℕ) → tally q xs ≡ bit (ltb q n)
+covered zero [] h e q = sym (ap bit (le-ltb q 0 (omega arith)))
 covered zero (x ∷ xs) h e q = absurd (omega arith)
 covered (suc n) xs h e q =
     let s = split-at n xs (h n (omega arith)) in
     let ys : List ℕ = s .front ++ s .back in
-    let counts : (j : ℕ) → count j xs ≡ count j (s .front) + count j (n ∷ s .back) =
-    λ j. ap (count j) (s .whole) ∙ count-append j (s .front) (n ∷ s .back) in
+    let counts : (j : ℕ) → tally j xs ≡ tally j (s .front) + tally j (n ∷ s .back) =
+    λ j. ap (tally j) (s .whole) ∙ tally-append j (s .front) (n ∷ s .back) in
     let long : length ys ≡ n =
     omega (arith, e, ap length (s .whole), length-append (s .front) (n ∷ s .back), length-append (s .front) (s .back)) in
     let rest = covered n ys
-    (λ j i. omega (arith, h j (omega arith), counts j, count-other j n (s .back) (below j i), count-append j (s .front) (s .back))) long in
+    (λ j i. omega (arith, h j (omega arith), counts j, tally-other j n (s .back) (below j i), tally-append j (s .front) (s .back))) long in
     ⊎-elim
     (λ (i : q ≡ n). rw (lt-ltb q (suc n) (omega arith))
-    (omega (arith, counts q, count-hit q n (s .back) i, count-append q (s .front) (s .back), rest q, ap one (le-ltb q n (omega arith)))))
-    (λ (i : q ≢ n). omega (arith, counts q, count-other q n (s .back) i, count-append q (s .front) (s .back), rest q, ap one (same i)))
+    (omega (arith, counts q, tally-hit q n (s .back) i, tally-append q (s .front) (s .back), rest q, ap bit (le-ltb q n (omega arith)))))
+    (λ (i : q ≢ n). omega (arith, counts q, tally-other q n (s .back) i, tally-append q (s .front) (s .back), rest q, ap bit (same i)))
     (same-or-not q n)
   where
     below : (j : ℕ) → j < n → j ≢ n
@@ -71,30 +71,30 @@ module _ (l : Places) where
   in-use : Linked l → InUse l (order l)
   in-use h =
       record {
-        linked = h .path;
+        linked = h .route;
         counted = sym (length-order l);
         few = h .some-used;
         fits = h .some-fresh;
         others =
             λ q i.
-            ⊎-elim (λ (z : 0 < count q (order l)). inl z)
-            (λ (z : count q (order l) ≤ 0). inr (omega (arith, h .once q, ap one (lt-ltb q (l .fresh) i)))) (less-or-not 0 (count q (order l)));
+            ⊎-elim (λ (z : 0 < tally q (order l)). inl z)
+            (λ (z : tally q (order l) ≤ 0). inr (omega (arith, h .once q, ap bit (lt-ltb q (l .fresh) i)))) (less-or-not 0 (tally q (order l)));
       }
 
   module _ (xs : List ℕ) (u : InUse l xs) where
     order-is : order l ≡ xs
-    order-is = ap (walk (l .next) (l .next (l .root))) (u .counted) ∙ path-walk (l .next) (l .prev) (l .root) xs (l .root) (u .linked)
+    order-is = ap (walk (l .next) (l .next (l .root))) (u .counted) ∙ route-walk (l .next) (l .prev) (l .root) xs (l .root) (u .linked)
 
     linked-so : Linked l
     linked-so =
         record {
-          path = subst (λ (ys : List ℕ). Path (l .next) (l .prev) (l .root) ys (l .root)) (sym order-is) (u .linked);
+          route = subst (λ (ys : List ℕ). Route (l .next) (l .prev) (l .root) ys (l .root)) (sym order-is) (u .linked);
           once =
               λ q.
-              sym (count-append q (order l) (freed l))
+              sym (tally-append q (order l) (freed l))
               ∙ covered (l .fresh) (order l ++ freed l)
-              (λ j i. subst (λ (n : ℕ). 0 < n) (sym (count-append j (order l) (freed l)))
-              (⊎-elim (λ (z : 0 < count j xs). omega (arith, z, ap (count j) order-is)) (λ (z : 0 < count j (freed l)). omega arith) (u .others j i)))
+              (λ j i. subst (λ (n : ℕ). 0 < n) (sym (tally-append j (order l) (freed l)))
+              (⊎-elim (λ (z : 0 < tally j xs). omega (arith, z, ap (tally j) order-is)) (λ (z : 0 < tally j (freed l)). omega arith) (u .others j i)))
               (omega (arith, length-append (order l) (freed l), length-order l, length-walk (l .next) (l .free) (l .fresh - l .len), u .few))
               q;
           some-used = u .few;
@@ -108,28 +108,28 @@ module _ (t keys ks : List ℕ) where
   unfolding FoundKey
   leads-to h =
       record {
-        found = λ x i. go x (count-mem x ks i) (searched t keys (getD keys x 0)) refl;
-        only = λ p lp. ⊎-elim (λ e. inl e) (λ i. inr (mem-count (getD t p 0) ks i)) (h .only p lp);
-        once = λ p q lp lq i e. h .once p q lp lq (h .place (getD t p 0) (count-mem (getD t p 0) ks i)) e;
+        found = λ x i. go x (tally-mem x ks i) (searched t keys (getD keys x 0)) refl;
+        only = λ p lp. ⊎-elim (λ e. inl e) (λ i. inr (mem-tally (getD t p 0) ks i)) (h .only p lp);
+        once = λ p q lp lq i e. h .once p q lp lq (h .place (getD t p 0) (tally-mem (getD t p 0) ks i)) e;
       }
     where
       go : (x : ℕ) → List·Memᴰ x ks → (r : Found) → searched t keys (getD keys x 0) ≡ r → FoundKey x r
       go x i (At p k n) e = let w = says-at t keys ks (getD keys x 0) h p n k e in h .distinct (k .0) x (w .2) i (w .3)
       go x i (Absent p n) e = absurd (says-absent t keys ks (getD keys x 0) h p n e .1 x i refl)
 
-  module _ (h : LeadsTo t keys ks) (size : length t ≡ 512) (few : length ks ≤ 256) (place : (x : ℕ) → 0 < count x ks → x < 256) where
+  module _ (h : LeadsTo t keys ks) (size : length t ≡ 512) (few : length ks ≤ 256) (place : (x : ℕ) → 0 < tally x ks → x < 256) where
     -- where the search for a member ends
-    ends : (x : ℕ) → 0 < count x ks → (p : ℕ) × (k : KeyPlace) × (n : ℕ) × (searched t keys (at keys x) ≡ At p k n) × (k .0 ≡ x)
+    ends : (x : ℕ) → 0 < tally x ks → (p : ℕ) × (k : KeyPlace) × (n : ℕ) × (searched t keys (at keys x) ≡ At p k n) × (k .0 ≡ x)
     ends x i = found-key (searched t keys (at keys x)) x (h .found x i)
 
-    stands : (x : ℕ) (i : 0 < count x ks) → Reached t keys (at keys x) (ends x i .0) (ends x i .1)
+    stands : (x : ℕ) (i : 0 < tally x ks) → Reached t keys (at keys x) (ends x i .0) (ends x i .1)
     stands x i = let w = ends x i in reached t keys (at keys x) (w .0) (w .2) (w .1) (w .3)
 
-    held : (p : ℕ) → p < 512 → at t p < 256 → 0 < count (at t p) ks
-    held p lp l = ⊎-elim (λ (e : at t p ≡ 65535). absurd (omega arith)) (λ (i : 0 < count (at t p) ks). i) (h .only p lp)
+    held : (p : ℕ) → p < 512 → at t p < 256 → 0 < tally (at t p) ks
+    held p lp l = ⊎-elim (λ (e : at t p ≡ 65535). absurd (omega arith)) (λ (i : 0 < tally (at t p) ks). i) (h .only p lp)
 
     -- two members of one number are what one search finds
-    one-number : (j k : ℕ) → 0 < count j ks → 0 < count k ks → at keys j ≡ at keys k → j ≡ k
+    one-number : (j k : ℕ) → 0 < tally j ks → 0 < tally k ks → at keys j ≡ at keys k → j ≡ k
     one-number j k mj mk e =
         let a = ends j mj in
         let b = ends k mk in
@@ -154,11 +154,11 @@ module _ (t keys ks : List ℕ) where
         record {
           size = size;
           few = few;
-          place = λ x i. place x (mem-count x ks i);
-          distinct = λ j k mj mk e. one-number j k (mem-count j ks mj) (mem-count k ks mk) e;
-          has = λ x i. let r = stands x (mem-count x ks i) in (ends x (mem-count x ks i) .0, r .inside, r .key ∙ ends x (mem-count x ks i) .4);
+          place = λ x i. place x (mem-tally x ks i);
+          distinct = λ j k mj mk e. one-number j k (mem-tally j ks mj) (mem-tally k ks mk) e;
+          has = λ x i. let r = stands x (mem-tally x ks i) in (ends x (mem-tally x ks i) .0, r .inside, r .key ∙ ends x (mem-tally x ks i) .4);
           once = λ p q lp lq l e. h .once p q lp lq (held p lp l) e;
-          only = λ p lp. ⊎-elim (λ e. inl e) (λ i. inr (count-mem (at t p) ks i)) (h .only p lp);
+          only = λ p lp. ⊎-elim (λ e. inl e) (λ i. inr (tally-mem (at t p) ks i)) (h .only p lp);
           reach = no-gap;
         }
 
@@ -183,7 +183,7 @@ module _ (m : Arrays) where
               owned = g .chained .keys;
               chain =
                   λ x i.
-                  subst (λ (l : List ℕ). Path (at (m .«next_index»)) (at (m .«previous_index»)) (1024 + x) l (1024 + x))
+                  subst (λ (l : List ℕ). Route (at (m .«next_index»)) (at (m .«previous_index»)) (1024 + x) l (1024 + x))
                   (places-are m g (at (m .keys) x) x i refl) (g .chained .chain x i);
               lengths = λ x i. sym (member-at m g (at (m .keys) x) x i refl .many);
               index = leads-to (m .index) (m .keys) (order (membersOf m)) (g .index);
@@ -218,8 +218,8 @@ module _ (m : Arrays) where
     lists-members : Linked (membersOf m)
     lists-members = linked-so (membersOf m) ks (r .member-list)
 
-    inside : (x : ℕ) → 0 < count x ks → x < 256
-    inside x i = in-array (membersOf m) lists-members x (subst (λ (l : List ℕ). 0 < count x l) (sym members-are) i)
+    inside : (x : ℕ) → 0 < tally x ks → x < 256
+    inside x i = in-array (membersOf m) lists-members x (subst (λ (l : List ℕ). 0 < tally x l) (sym members-are) i)
 
     holds : Holds (m .index) (m .keys) ks
     holds =
@@ -227,7 +227,7 @@ module _ (m : Arrays) where
         (omega (arith, r .member-list .counted, r .member-list .few, r .member-list .fits)) inside
 
     -- the rounds of a member place are the places of its pairs
-    places : (x : ℕ) → 0 < count x ks → recordIn (linksOf m) x ≡ keep (λ q. of (at (m .keys) x) (pairAt m q)) vs
+    places : (x : ℕ) → 0 < tally x ks → recordIn (linksOf m) x ≡ keep (λ q. of (at (m .keys) x) (pairAt m q)) vs
     places x i =
         ap (keep (λ q. eqb (at (m .«key_index») q) x)) rounds-are
         ∙ keep-same (λ q. eqb (at (m .«key_index») q) x) (λ q. of (at (m .keys) x) (pairAt m q)) vs
@@ -236,7 +236,7 @@ module _ (m : Arrays) where
     pairs-of : (k : ℕ) → filter (of k) P ≡ map (pairAt m) (keep (λ q. of k (pairAt m q)) vs)
     pairs-of k = ap (filter (of k)) (sym (r .pairs-are)) ∙ filter-map (of k) (pairAt m) vs
 
-    many : (x : ℕ) → 0 < count x ks → length (recordIn (linksOf m) x) ≡ length (filter (of (at (m .keys) x)) P)
+    many : (x : ℕ) → 0 < tally x ks → length (recordIn (linksOf m) x) ≡ length (filter (of (at (m .keys) x)) P)
     many x i =
         ap length (places x i) ∙ sym (length-map (keep (λ q. of (at (m .keys) x) (pairAt m q)) vs) (pairAt m)) ∙ ap length (sym (pairs-of (at (m .keys) x)))
 
@@ -245,21 +245,21 @@ module _ (m : Arrays) where
         record {
           rounds = lists-rounds;
           members = lists-members;
-          keys = λ q i. back (at (m .«key_index») q) (r .owned q (subst (λ (l : List ℕ). 0 < count q l) rounds-are i));
+          keys = λ q i. back (at (m .«key_index») q) (r .owned q (subst (λ (l : List ℕ). 0 < tally q l) rounds-are i));
           chain =
               λ x i.
-              subst (λ (l : List ℕ). Path (at (m .«next_index»)) (at (m .«previous_index»)) (1024 + x) l (1024 + x))
+              subst (λ (l : List ℕ). Route (at (m .«next_index»)) (at (m .«previous_index»)) (1024 + x) l (1024 + x))
               (sym (places x (there x i))) (r .chain x (there x i));
           size =
               λ x i.
               r .lengths x (there x i) ∙ length-map (filter (of (at (m .keys) x)) P) (λ (p : Pair). p .value) ∙ sym (many x (there x i));
         }
       where
-        back : (x : ℕ) → 0 < count x ks → 0 < count x (order (membersOf m))
-        back x i = subst (λ (l : List ℕ). 0 < count x l) (sym members-are) i
+        back : (x : ℕ) → 0 < tally x ks → 0 < tally x (order (membersOf m))
+        back x i = subst (λ (l : List ℕ). 0 < tally x l) (sym members-are) i
 
-        there : (x : ℕ) → 0 < count x (order (membersOf m)) → 0 < count x ks
-        there x i = subst (λ (l : List ℕ). 0 < count x l) members-are i
+        there : (x : ℕ) → 0 < tally x (order (membersOf m)) → 0 < tally x ks
+        there x i = subst (λ (l : List ℕ). 0 < tally x l) members-are i
 
     -- K holds no other than the members of P: each member has a round
     module _ (exactly : (k : ℕ) → times (eqb k) K ≡ cond (has k P) 1 0) where
@@ -267,7 +267,7 @@ module _ (m : Arrays) where
       has-pair k i true e = any-one (of k) P e
       has-pair k i false e = absurd (omega (arith, exactly k, ap {B = ℕ} (λ (b : Bool). cond b 1 0) e))
 
-      some-round : (x : ℕ) → 0 < count x ks → 0 < length (recordIn (linksOf m) x)
+      some-round : (x : ℕ) → 0 < tally x ks → 0 < length (recordIn (linksOf m) x)
       some-round x i =
           let k : ℕ = at (m .keys) x in
           let counted : 0 < times (eqb k) K =
@@ -279,7 +279,7 @@ module _ (m : Arrays) where
           record {
             sized = r .sized;
             chained = chained;
-            some = λ x i. some-round x (subst (λ (l : List ℕ). 0 < count x l) members-are i);
+            some = λ x i. some-round x (subst (λ (l : List ℕ). 0 < tally x l) members-are i);
             index = subst (Holds (m .index) (m .keys)) (sym members-are) holds;
             taken = t;
           }

@@ -5,9 +5,9 @@ use mathlib.Core.Bool.{Bool, true}
 use mathlib.Core.List.{List, _∷_, _++_, map}
 use Rattle.steps.specs.State.{Pair, has, remove-pair, keep}
 use Rattle.steps.proofs.Removals.{keep-middle, keep-keep}
-use Rattle.links.specs.Path.{count}
+use Rattle.links.specs.Route.{tally}
 use Rattle.links.specs.Places.{order}
-use Rattle.links.proofs.Paths.{Split, split-at}
+use Rattle.links.proofs.Routes.{Split, split-at}
 use Rattle.links.proofs.Lists.{order-without}
 use Rattle.multimap.specs.Arrays.{Arrays}
 use Rattle.multimap.specs.Map.{pairAt, roundsOf, stateOf}
@@ -16,7 +16,7 @@ use Rattle.multimap.specs.Popping.{rest, PairGone}
 use Rattle.multimap.proofs.Stores.{map-append}
 use Rattle.multimap.proofs.Leaving.{all-have}
 
-module _ (a : Arrays) (g : WellLinked a) (x : ℕ) (i : 0 < count x (order (roundsOf a)))
+module _ (a : Arrays) (g : WellLinked a) (x : ℕ) (i : 0 < tally x (order (roundsOf a)))
     {gone : Bool} (o : Arrays) (w : PairGone a x gone o) where
   -- the others are kept
   pub gone-state : stateOf o ≡ keep (rest a x) (stateOf a)

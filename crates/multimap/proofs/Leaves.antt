@@ -12,7 +12,7 @@ use Rattle.steps.specs.Call.{Call, none, popped, Answer}
 use Rattle.steps.specs.Coded.{coded}
 use Rattle.steps.specs.Step.{say}
 use Rattle.steps.specs.Told.{Told}
-use Rattle.links.specs.Path.{count}
+use Rattle.links.specs.Route.{tally}
 use Rattle.links.specs.Places.{order}
 use Rattle.links.specs.Stores.{at}
 use Rattle.multimap.specs.Arrays.{Arrays}
@@ -48,7 +48,7 @@ more-or-not n = go (ltb 1 n) refl
     go true e = inl (ltb-true 1 n e)
     go false e = inr (ltb-false 1 n e)
 
-module _ (a : Arrays) (g : WellLinked a) (x : ℕ) (i : 0 < count x (order (roundsOf a))) where
+module _ (a : Arrays) (g : WellLinked a) (x : ℕ) (i : 0 < tally x (order (roundsOf a))) where
   here : RoundPlace a x
   here = record { linked = g; inside = i }
 

@@ -10,10 +10,10 @@ use lib.Dec.{eqb}
 use lib.ListN.{length}
 use Rattle.steps.specs.Lists.{filter}
 use Rattle.steps.specs.State.{has, keep as keeping}
-use Rattle.links.specs.Path.{pick, count, keep, strip}
+use Rattle.links.specs.Route.{pick, tally, keep, strip}
 use Rattle.links.specs.Places.{Places, order}
 use Rattle.links.specs.Links.{recordOf, recordIn}
-use Rattle.links.proofs.Paths.{same-or-not, count-same, count-hit, count-other, keep-all, keep-same, count-keep}
+use Rattle.links.proofs.Routes.{same-or-not, tally-same, tally-hit, tally-other, keep-all, keep-same, tally-keep}
 use Rattle.links.proofs.Strips.{strip-keep}
 use Rattle.multimap.specs.Map.{at, pairAt, pairs, members, roundsOf, membersOf, linksOf, stateOf}
 use Rattle.multimap.specs.WellLinked.{WellLinked}
@@ -23,12 +23,12 @@ use Rattle.multimap.specs.Strike.{Struck}
 use Rattle.multimap.specs.Sweep.{Sound, Swept}
 
 -- a member has a pair exactly where its record has a place
-module _ (m : Arrays) (g : WellLinked m) (k : ℕ) (i : 0 < count k (order (membersOf m))) where
-  pub has-size : (vs : List ℕ) → ((q : ℕ) → 0 < count q vs → 0 < count (at (m .«key_index») q) (order (membersOf m)))
+module _ (m : Arrays) (g : WellLinked m) (k : ℕ) (i : 0 < tally k (order (membersOf m))) where
+  pub has-size : (vs : List ℕ) → ((q : ℕ) → 0 < tally q vs → 0 < tally (at (m .«key_index») q) (order (membersOf m)))
       → has (at (m .keys) k) (map (pairAt m) vs) ≡ not (eqb (length (recordOf (at (m .«key_index»)) k vs)) 0)
   has-size [] h = sym (ap not (eq-eqb 0 0 refl))
   has-size (v ∷ vs) h =
-      ap (λ (b : Bool). b || has (at (m .keys) k) (map (pairAt m) vs)) (same-number (m .index) (m .keys) (order (membersOf m)) (g .index) (at (m .«key_index») v) k (h v (rw count-same (omega arith))) i)
+      ap (λ (b : Bool). b || has (at (m .keys) k) (map (pairAt m) vs)) (same-number (m .index) (m .keys) (order (membersOf m)) (g .index) (at (m .«key_index») v) k (h v (rw tally-same (omega arith))) i)
       ∙ go (eqb (at (m .«key_index») v) k) (has-size vs (λ q j. h q (omega arith)))
     where
       go : (b : Bool) → has (at (m .keys) k) (map (pairAt m) vs) ≡ not (eqb (length (recordOf (at (m .«key_index»)) k vs)) 0)
@@ -50,18 +50,18 @@ module _ (m : Arrays) (g : WellLinked m) (ws : List ℕ) (o : Arrays) (s : Struc
       }
 
   -- the places left are places of the rounds
-  pub member-still : (q : ℕ) → 0 < count q (order (roundsOf o)) → 0 < count (at (m .«key_index») q) (order (membersOf m))
+  pub member-still : (q : ℕ) → 0 < tally q (order (roundsOf o)) → 0 < tally (at (m .«key_index») q) (order (membersOf m))
   member-still q i =
-      subst (λ (l : List ℕ). 0 < count (at (m .«key_index») q) l) same-members
+      subst (λ (l : List ℕ). 0 < tally (at (m .«key_index») q) l) same-members
       (rw (ap (λ (l : List _). at l q) (s .kept .key-index)) at (s .chained .keys q i))
 
   -- what is left of the members: those with a round
   abbrev with-round : ℕ → Bool
   with-round k = not (eqb (at (o .lengths) k) 0)
 
-  pub length-now : (k : ℕ) → 0 < count k (order (membersOf m)) → at (o .lengths) k ≡ length (recordOf (at (m .«key_index»)) k (order (roundsOf o)))
+  pub length-now : (k : ℕ) → 0 < tally k (order (membersOf m)) → at (o .lengths) k ≡ length (recordOf (at (m .«key_index»)) k (order (roundsOf o)))
   length-now k i =
-      s .chained .size k (subst (λ (l : List ℕ). 0 < count k l) (sym same-members) i)
+      s .chained .size k (subst (λ (l : List ℕ). 0 < tally k l) (sym same-members) i)
       ∙ ap (λ (l : List _). length (recordOf (at l) k (order (roundsOf o)))) (s .kept .key-index)
 
   module _ (us : List ℕ) (r : Arrays) (w : Swept o us r) (leavers : strip us (order (membersOf o)) ≡ keep with-round (order (membersOf o))) where
@@ -75,14 +75,14 @@ module _ (m : Arrays) (g : WellLinked m) (ws : List ℕ) (o : Arrays) (s : Struc
           chained = w .sound .chained;
           some =
               λ k i.
-              let z : 0 < at (o .lengths) k = go k (eqb (at (o .lengths) k) 0) refl (subst (λ (l : List ℕ). 0 < count k l) left i) in
+              let z : 0 < at (o .lengths) k = go k (eqb (at (o .lengths) k) 0) refl (subst (λ (l : List ℕ). 0 < tally k l) left i) in
               omega (arith, w .sound .chained .size k i, ap (λ (l : List ℕ). at l k) (w .kept .lengths));
           index = w .sound .index;
           taken = rw (w .kept .ledger, s .kept .ledger) (g .taken);
         }
       where
-        go : (k : ℕ) (b : Bool) → eqb (at (o .lengths) k) 0 ≡ b → 0 < count k (keep with-round (order (membersOf o))) → 0 < at (o .lengths) k
-        go k true e i = absurd (omega (arith, i, count-keep with-round k (order (membersOf o)), ap (λ (b : Bool). pick (not b) (count k (order (membersOf o))) 0) e))
+        go : (k : ℕ) (b : Bool) → eqb (at (o .lengths) k) 0 ≡ b → 0 < tally k (keep with-round (order (membersOf o))) → 0 < at (o .lengths) k
+        go k true e i = absurd (omega (arith, i, tally-keep with-round k (order (membersOf o)), ap (λ (b : Bool). pick (not b) (tally k (order (membersOf o))) 0) e))
         go k false e i = let n = eqb-false (at (o .lengths) k) 0 e in omega arith
 
     pairs-now : pairs r ≡ map (pairAt m) (order (roundsOf o))
@@ -109,16 +109,16 @@ all-have m g =
     ∙ ap not (ne-eqb (length (recordIn (linksOf m) k)) 0 (λ e. omega (arith, g .some k i, e)))))
 
 -- where only the member place k may be without a round, only it may leave
-pub leaves-one : (size : ℕ → ℕ) (k : ℕ) (ks : List ℕ) → ((j : ℕ) → 0 < count j ks → j ≢ k → size j ≢ 0)
+pub leaves-one : (size : ℕ → ℕ) (k : ℕ) (ks : List ℕ) → ((j : ℕ) → 0 < tally j ks → j ≢ k → size j ≢ 0)
     → strip (keep (λ j. eqb (size j) 0) (k ∷ [])) ks ≡ keep (λ j. not (eqb (size j) 0)) ks
 leaves-one size k ks h =
     strip-keep (keep (λ j. eqb (size j) 0) (k ∷ [])) ks
-    ∙ keep-same (λ j. eqb (count j (keep (λ j. eqb (size j) 0) (k ∷ []))) 0) (λ j. not (eqb (size j) 0)) ks (λ j i. go j i (eqb (size k) 0) refl)
+    ∙ keep-same (λ j. eqb (tally j (keep (λ j. eqb (size j) 0) (k ∷ []))) 0) (λ j. not (eqb (size j) 0)) ks (λ j i. go j i (eqb (size k) 0) refl)
   where
-    go : (j : ℕ) → 0 < count j ks → (b : Bool) → eqb (size k) 0 ≡ b → eqb (count j (pick b (k ∷ []) [])) 0 ≡ not (eqb (size j) 0)
+    go : (j : ℕ) → 0 < tally j ks → (b : Bool) → eqb (size k) 0 ≡ b → eqb (tally j (pick b (k ∷ []) [])) 0 ≡ not (eqb (size j) 0)
     go j i true e =
-        ⊎-elim (λ (u : j ≡ k). ne-eqb (count j (k ∷ [])) 0 (λ z. omega (arith, count-hit j k [] u, z)) ∙ sym (ap not (ap (λ (y : ℕ). eqb (size y) 0) u ∙ e)))
-        (λ (u : j ≢ k). eq-eqb _ 0 (count-other j k [] u) ∙ sym (ap not (ne-eqb (size j) 0 (h j i u)))) (same-or-not j k)
+        ⊎-elim (λ (u : j ≡ k). ne-eqb (tally j (k ∷ [])) 0 (λ z. omega (arith, tally-hit j k [] u, z)) ∙ sym (ap not (ap (λ (y : ℕ). eqb (size y) 0) u ∙ e)))
+        (λ (u : j ≢ k). eq-eqb _ 0 (tally-other j k [] u) ∙ sym (ap not (ne-eqb (size j) 0 (h j i u)))) (same-or-not j k)
     go j i false e =
         ⊎-elim (λ (u : j ≡ k). sym (ap not (ap (λ (y : ℕ). eqb (size y) 0) u ∙ e)))
         (λ (u : j ≢ k). sym (ap not (ne-eqb (size j) 0 (h j i u)))) (same-or-not j k)

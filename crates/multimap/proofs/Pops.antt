@@ -20,10 +20,10 @@ use Rattle.steps.specs.Told.{Told}
 use Rattle.steps.specs.Call.{packs}
 use Rattle.steps.proofs.Doing.{does-stay, does-change}
 use Rattle.steps.proofs.Filter.{filter-fuse, any-append}
-use Rattle.links.specs.Path.{count, keep, without, strip, walk}
+use Rattle.links.specs.Route.{tally, keep, without, strip, walk}
 use Rattle.links.specs.Places.{order}
 use Rattle.links.specs.Links.{recordIn, recordOf}
-use Rattle.links.proofs.Paths.{same-or-not, keep-all, keep-inside, count-same, count-append, Split, split-at, path-end}
+use Rattle.links.proofs.Routes.{same-or-not, keep-all, keep-inside, tally-same, tally-append, Split, split-at, route-end}
 use Rattle.links.proofs.Lists.{order-without, length-order}
 use Rattle.links.proofs.Bare.{bare-order}
 use Rattle.index.specs.Table.{Removed}
@@ -86,7 +86,7 @@ module _ (m : Arrays) (x : ℕ) (h : RoundPlace m x) where
   abbrev place : ℕ
   place = at (m .«key_index») x
 
-  place-in : 0 < count place (order (membersOf m))
+  place-in : 0 < tally place (order (membersOf m))
   place-in = g .chained .keys x (h .inside)
 
   pub round-stretch : Stretch false m x 1
@@ -112,9 +112,9 @@ module _ (m : Arrays) (x : ℕ) (h : RoundPlace m x) where
         record { sound = struck-sound m g (x ∷ []) o s; front = p .front; back = p .back; whole = p .whole }
 
     -- the other members keep their rounds
-    others : (j : ℕ) → 0 < count j (order (membersOf o)) → j ≢ place → at (o .lengths) j ≢ 0
+    others : (j : ℕ) → 0 < tally j (order (membersOf o)) → j ≢ place → at (o .lengths) j ≢ 0
     others j i n e =
-        let i′ : 0 < count j (order (membersOf m)) = rw (ap order (s .kept .members)) at i in
+        let i′ : 0 < tally j (order (membersOf m)) = rw (ap order (s .kept .members)) at i in
         let a : recordOf key j (order (roundsOf o)) ≡ recordIn (linksOf m) j =
         ap (recordOf key j) (s .left)
         ∙ keep-inside (λ q. eqb (key q) j) (λ q. not (eqb q x)) vs (λ q u. ap not (ne-eqb q x (λ v. n (sym (eqb-true (key q) j u) ∙ ap key v)))) in
@@ -153,7 +153,7 @@ module _ (m : Arrays) (x : ℕ) (h : RoundPlace m x) where
           left = refl;
           kept = record { keys = refl; values = refl; key-index = refl; rounds = refl; next-index = refl; previous-index = refl; lengths = refl; ledger = refl };
         } in
-        let all : (j : ℕ) → 0 < count j (order (membersOf o)) → at (o .lengths) j ≢ 0 =
+        let all : (j : ℕ) → 0 < tally j (order (membersOf o)) → at (o .lengths) j ≢ 0 =
         λ j i. ⊎-elim (λ (u : j ≡ place). λ z. e (ap (at (o .lengths)) (sym u) ∙ z)) (others j i) (same-or-not j place) in
         taken-out [] o stays (sym (keep-all (λ j. not (eqb (at (o .lengths) j) 0)) (order (membersOf o)) (λ j i. ap not (ne-eqb (at (o .lengths) j) 0 (all j i))))) false (ne-eqb (at (o .lengths) place) 0 e)
 
@@ -188,7 +188,7 @@ module _ (m : Arrays) (z : Sized m) (x : ℕ) (h : RoundPlace m x) where
   pub now-sound : Sound taken
   now-sound = struck-sound m (h .linked) (x ∷ []) taken round-struck
 
-  pub k-in : 0 < count k (order (membersOf m))
+  pub k-in : 0 < tally k (order (membersOf m))
   k-in = place-in m x h
 
   pub member-bounds : W.Bounds m (at (m .«key_index») x)
@@ -266,7 +266,7 @@ module _ (m : Arrays) (g : WellLinked m) where
     ws = order (roundsOf m)
 
     inside : (xs ys : List ℕ) (x : ℕ) → order (roundsOf m) ≡ xs ++ x ∷ ys → RoundPlace m x
-    inside xs ys x e = record { linked = g; inside = omega (arith, ap (count x) e, count-append x xs (x ∷ ys), count-same x ys) }
+    inside xs ys x e = record { linked = g; inside = omega (arith, ap (tally x) e, tally-append x xs (x ∷ ys), tally-same x ys) }
 
     -- the first
     abbrev x : ℕ
@@ -289,7 +289,7 @@ module _ (m : Arrays) (g : WellLinked m) where
     z = at (m .«previous_value») 1024
 
     back : (xs : List ℕ) × (ws ≡ xs ++ z ∷ [])
-    back = path-end (at (m .«next_value»)) (at (m .«previous_value»)) 1024 ws 1024 (g .chained .rounds .path) (omega (arith, length-order (roundsOf m)))
+    back = route-end (at (m .«next_value»)) (at (m .«previous_value»)) 1024 ws 1024 (g .chained .rounds .route) (omega (arith, length-order (roundsOf m)))
 
     pub back-round : RoundPlace m (at (m .«previous_value») 1024)
     back-round = inside (back .0) [] z (back .1)

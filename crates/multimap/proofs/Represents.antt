@@ -14,9 +14,9 @@ use Rattle.steps.specs.State.{Pair, has, of, rounds}
 use Rattle.steps.specs.Accounting.{times}
 use Rattle.steps.specs.Proper.{Proper}
 use Rattle.steps.proofs.Filter.{any-one, any-none}
-use Rattle.links.specs.Path.{count, keep}
+use Rattle.links.specs.Route.{tally, keep}
 use Rattle.links.specs.Places.{order}
-use Rattle.links.proofs.Paths.{same-or-not, keep-same}
+use Rattle.links.proofs.Routes.{same-or-not, keep-same}
 use Rattle.links.proofs.Lists.{place-once}
 use Rattle.index.specs.declared.Found.{Found}
 use Rattle.index.specs.declared.Found.the-variants.{At, Absent}
@@ -28,7 +28,7 @@ use Rattle.multimap.proofs.Stores.{length-pairs, length-members}
 use Rattle.multimap.proofs.Records.{NoMember, Member, filter-map, same-number, found, not-found}
 
 -- as many elements are x as x is counted
-hits : (x : ℕ) (xs : List ℕ) → length (keep (λ q. eqb q x) xs) ≡ count x xs
+hits : (x : ℕ) (xs : List ℕ) → length (keep (λ q. eqb q x) xs) ≡ tally x xs
 hits x [] = refl
 hits x (q ∷ qs) =
     ⊎-elim (λ (e : q ≡ x). rw (eq-eqb q x e, eq-eqb x q (sym e)) (omega (arith, hits x qs)))

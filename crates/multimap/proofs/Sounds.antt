@@ -8,22 +8,22 @@ use lib.Dec.{eqb}
 use lib.ListN.{length, length-map}
 use Rattle.steps.specs.Lists.{filter}
 use Rattle.steps.specs.State.{State, of}
-use Rattle.links.specs.Path.{count, keep}
+use Rattle.links.specs.Route.{tally, keep}
 use Rattle.links.specs.Places.{order}
 use Rattle.links.specs.Links.{recordIn}
-use Rattle.links.proofs.Paths.{keep-same}
+use Rattle.links.proofs.Routes.{keep-same}
 use Rattle.multimap.specs.Map.{at, pairAt, pairs, members, roundsOf, membersOf, linksOf, stateOf}
 use Rattle.multimap.specs.Arrays.{Arrays}
 use Rattle.multimap.specs.WellLinked.{WellLinked}
 use Rattle.multimap.specs.Sweep.{Sound}
-use Rattle.multimap.proofs.Stores.{mem-count, count-mem}
+use Rattle.multimap.proofs.Stores.{mem-tally, tally-mem}
 use Rattle.multimap.proofs.Records.{filter-map, same-number}
 
 pub linked-sound : (m : Arrays) → WellLinked m → Sound m
 linked-sound m g = record { sized = g .sized; chained = g .chained; index = g .index }
 
 -- a member's record is as long as it has pairs
-pub record-pairs : (m : Arrays) → Sound m → (x : ℕ) → 0 < count x (order (membersOf m))
+pub record-pairs : (m : Arrays) → Sound m → (x : ℕ) → 0 < tally x (order (membersOf m))
     → length (recordIn (linksOf m) x) ≡ length (filter (of (at (m .keys) x)) (pairs m))
 record-pairs m g x i =
     let k : ℕ = at (m .keys) x in
@@ -36,13 +36,13 @@ pub sound-linked : (m : Arrays) → WellLinked m → (r : Arrays) → Sound r �
 sound-linked m g r h e =
     record { sized = h .sized; chained = h .chained; some = some; index = h .index; taken = rw (ap (λ (s : State). s .taken) e) (g .taken) }
   where
-    some : (x : ℕ) → 0 < count x (order (membersOf r)) → 0 < length (recordIn (linksOf r) x)
+    some : (x : ℕ) → 0 < tally x (order (membersOf r)) → 0 < length (recordIn (linksOf r) x)
     some x i =
         let k : ℕ = at (r .keys) x in
         let old : List·Memᴰ k (members m) =
-        subst (λ (s : State). List·Memᴰ k (s .members)) e (Memᴰ·map (at (r .keys)) (count-mem x (order (membersOf r)) i)) in
+        subst (λ (s : State). List·Memᴰ k (s .members)) e (Memᴰ·map (at (r .keys)) (tally-mem x (order (membersOf r)) i)) in
         let w = Memᴰ·of-map (at (m .keys)) (order (membersOf m)) old in
-        let j : 0 < count (w .0) (order (membersOf m)) = mem-count (w .0) (order (membersOf m)) (w .1) in
+        let j : 0 < tally (w .0) (order (membersOf m)) = mem-tally (w .0) (order (membersOf m)) (w .1) in
         let many : length (filter (of (at (m .keys) (w .0))) (pairs m)) ≡ length (filter (of k) (pairs r)) =
         ap (λ (n : ℕ). length (filter (of n) (pairs m))) (w .2) ∙ sym (ap (λ (s : State). length (filter (of k) (s .pairs))) e) in
         omega (arith, record-pairs r h x i, many, record-pairs m (linked-sound m g) (w .0) j, g .some (w .0) j)

@@ -7,10 +7,10 @@ use native.Mathlib.Omega.{arith}
 use native.Mathlib.Numerals.{add-one}
 use lib.Dec.{eqb}
 use lib.ListN.{length, getD, set, drop, length-set, drop-of-length-le}
-use Rattle.links.specs.Path.{pick, count, keep, without, strip, Path}
+use Rattle.links.specs.Route.{pick, tally, keep, without, strip, Route}
 use Rattle.links.specs.Places.{order}
 use Rattle.links.specs.Links.{Links, base, Chained, struck}
-use Rattle.links.proofs.Paths.{count-in, count-append, count-same, Once, without-split, keep-swap, path-split, path-start}
+use Rattle.links.proofs.Routes.{tally-in, tally-append, tally-same, Once, without-split, keep-swap, route-split, route-start}
 use Rattle.links.proofs.Lists.{length-walk, length-order, order-once, in-array, at-most-root, next-in, prev-in}
 use Rattle.links.proofs.Chains.{in-record, record-once, own-member, cells-once, struck-chained, struck-order, size-some, prev-cell, next-cell, cell-fits}
 use Rattle.multimap.specs.Map.{at, roundsOf, membersOf, linksOf}
@@ -32,36 +32,36 @@ root false c k = c .rounds .root
 
 module _ (c : Links) (g : Chained c) (k : ℕ) where
   -- a place of a course is one of a round, and has its member place
-  on-course : (b : Bool) (x : ℕ) → 0 < count x (course b c k) → 0 < count x (order (c .rounds))
+  on-course : (b : Bool) (x : ℕ) → 0 < tally x (course b c k) → 0 < tally x (order (c .rounds))
   on-course true x i = omega (arith, record-once (c .key) k x (order (c .rounds)))
   on-course false x i = i
 
-  course-path : (b : Bool) (x : ℕ) → 0 < count x (course b c k) → Path (onward b c) (backward b c) (root b c k) (course b c k) (root b c k)
-  course-path true x i =
-      g .chain k (subst (λ (j : ℕ). 0 < count j (order (c .members))) (in-record (c .key) k x (order (c .rounds)) i) (own-member c g x (on-course true x i)))
-  course-path false x i = g .rounds .path
+  course-route : (b : Bool) (x : ℕ) → 0 < tally x (course b c k) → Route (onward b c) (backward b c) (root b c k) (course b c k) (root b c k)
+  course-route true x i =
+      g .chain k (subst (λ (j : ℕ). 0 < tally j (order (c .members))) (in-record (c .key) k x (order (c .rounds)) i) (own-member c g x (on-course true x i)))
+  course-route false x i = g .rounds .route
 
   course-once : (b : Bool) → Once (root b c k ∷ course b c k)
   course-once true = cells-once c g k
   course-once false = order-once (c .rounds) (g .rounds)
 
-  course-struck : (b : Bool) (x : ℕ) → 0 < count x (order (c .rounds)) → course b (struck c x) k ≡ without x (course b c k)
+  course-struck : (b : Bool) (x : ℕ) → 0 < tally x (order (c .rounds)) → course b (struck c x) k ≡ without x (course b c k)
   course-struck true x i = ap (keep (λ q. eqb (c .key q) k)) (struck-order c g x i) ∙ keep-swap (λ q. eqb (c .key q) k) (λ q. not (eqb q x)) (order (c .rounds))
   course-struck false x i = struck-order c g x i
 
   module _ (b : Bool) (us : List ℕ) (x : ℕ) (ds : List ℕ) (e : course b c k ≡ us ++ x ∷ ds) where
-    x-on : 0 < count x (course b c k)
-    x-on = omega (arith, ap (count x) e, count-append x us (x ∷ ds), count-same x ds)
+    x-on : 0 < tally x (course b c k)
+    x-on = omega (arith, ap (tally x) e, tally-append x us (x ∷ ds), tally-same x ds)
 
     onward-is : onward b c x ≡ getD ds 0 (root b c k)
     onward-is =
-        let p = subst (λ (l : List ℕ). Path (onward b c) (backward b c) (root b c k) l (root b c k)) e (course-path b x x-on) in
-        path-start (onward b c) (backward b c) x ds (root b c k) (path-split (onward b c) (backward b c) (root b c k) us x ds (root b c k) p .1)
+        let p = subst (λ (l : List ℕ). Route (onward b c) (backward b c) (root b c k) l (root b c k)) e (course-route b x x-on) in
+        route-start (onward b c) (backward b c) x ds (root b c k) (route-split (onward b c) (backward b c) (root b c k) us x ds (root b c k) p .1)
 
     course-left : course b (struck c x) k ≡ us ++ ds
     course-left =
         course-struck b x (on-course b x x-on) ∙ ap (without x) e
-        ∙ without-split x us ds (λ q. omega (arith, course-once b q, ap (count q) e))
+        ∙ without-split x us ds (λ q. omega (arith, course-once b q, ap (tally q) e))
 
 -- ---- the stores of a turn
 
@@ -76,7 +76,7 @@ pub record Bounds (o : Arrays) (x : ℕ) : Type 0 where
   pub size : 0 < at (o .lengths) (at (o .«key_index») x)
   pub some : 0 < at (o .rounds) 0
 
-module _ (o : Arrays) (s : Sized o) (g : Chained (linksOf o)) (x : ℕ) (i : 0 < count x (order (roundsOf o))) where
+module _ (o : Arrays) (s : Sized o) (g : Chained (linksOf o)) (x : ℕ) (i : 0 < tally x (order (roundsOf o))) where
   abbrev n : ℕ
   n = at (o .«next_value») x
 
@@ -94,7 +94,7 @@ module _ (o : Arrays) (s : Sized o) (g : Chained (linksOf o)) (x : ℕ) (i : 0 <
 
   pub bounds : Bounds o x
   bounds =
-      let x-in : 0 < count x (1024 ∷ order (roundsOf o)) = omega arith in
+      let x-in : 0 < tally x (1024 ∷ order (roundsOf o)) = omega arith in
       let k : key < 256 = in-array (membersOf o) (g .members) key (own-member (linksOf o) g x i) in
       record {
         place = in-array (roundsOf o) (g .rounds) x i;
@@ -104,7 +104,7 @@ module _ (o : Arrays) (s : Sized o) (g : Chained (linksOf o)) (x : ℕ) (i : 0 <
         before = cell-fits (linksOf o) g before key 256 (prev-cell (linksOf o) g x i) k;
         key = k;
         size = size-some (linksOf o) g x i;
-        some = omega (arith, count-in x (order (roundsOf o)) i, length-order (roundsOf o));
+        some = omega (arith, tally-in x (order (roundsOf o)) i, length-order (roundsOf o));
       }
 
   abbrev pub r : Arrays
@@ -216,7 +216,7 @@ module _ (b : Bool) (m : Arrays) (start turns : ℕ) (h : Stretch b m start turn
       split : course b (linksOf o) k ≡ t .front ++ q ∷ (ds ++ h .back)
       split = split-next vs (h .back) i q _ more (t .here e) (t .front) (course b (linksOf o) k) (t .whole)
 
-      pub q-in : 0 < count q (order (roundsOf o))
+      pub q-in : 0 < tally q (order (roundsOf o))
       q-in = on-course (linksOf o) (t .chained) k b q (x-on (linksOf o) (t .chained) k b (t .front) q (ds ++ h .back) split)
 
       next-q : onward b (linksOf o) q ≡ getD (ds ++ h .back) 0 (root b (linksOf o) k)

@@ -9,10 +9,10 @@ use native.Mathlib.Numerals.{add-one}
 use borrow.Author.Tests.{eq-eqb, ne-eqb}
 use lib.Dec.{eqb}
 use lib.ListN.{length, getD, set, drop, length-set, drop-of-length-le}
-use Rattle.links.specs.Path.{pick, count, keep, without, strip, Path}
+use Rattle.links.specs.Route.{pick, tally, keep, without, strip, Route}
 use Rattle.links.specs.Places.{order}
 use Rattle.links.specs.Links.{Links, recordIn, Chained, parted}
-use Rattle.links.proofs.Paths.{count-append, count-same, count-in, length-keep, path-split, path-start}
+use Rattle.links.proofs.Routes.{tally-append, tally-same, tally-in, length-keep, route-split, route-start}
 use Rattle.links.proofs.Lists.{length-walk, length-order, order-without, in-array, at-most-root, next-in, prev-in}
 use Rattle.links.proofs.Chains.{of-without, in-without, parted-chained, parted-order}
 use Rattle.index.specs.Table.{Holds, Removed}
@@ -22,7 +22,7 @@ use Rattle.index.proofs.Without.{without-mem, mem-without}
 use Rattle.multimap.specs.Map.{at, membersOf, linksOf}
 use Rattle.multimap.specs.Arrays.{Arrays, Sized}
 use Rattle.multimap.specs.Changes.{withoutMember}
-use Rattle.multimap.proofs.Stores.{at-set, at-set₂, places-eq, links-eq, mem-count, count-mem}
+use Rattle.multimap.proofs.Stores.{at-set, at-set₂, places-eq, links-eq, mem-tally, tally-mem}
 use Rattle.multimap.proofs.Stretches.{first-of, at-next, split-next, split-past}
 use Rattle.multimap.specs.Sweep.{passed, idle, Sound, Sweepable, MembersOnly, Swept}
 
@@ -35,7 +35,7 @@ pub record Bounds (o : Arrays) (x : ℕ) : Type 0 where
   pub prev : at (o .«previous_key») x < 257
   pub some : 0 < at (o .members) 0
 
-module _ (o : Arrays) (s : Sized o) (g : Sound o) (x : ℕ) (i : 0 < count x (order (membersOf o))) where
+module _ (o : Arrays) (s : Sized o) (g : Sound o) (x : ℕ) (i : 0 < tally x (order (membersOf o))) where
   abbrev n : ℕ
   n = at (o .«next_key») x
 
@@ -45,12 +45,12 @@ module _ (o : Arrays) (s : Sized o) (g : Sound o) (x : ℕ) (i : 0 < count x (or
   pub bounds : Bounds o x
   bounds =
       let l = g .chained .members in
-      let x-in : 0 < count x (256 ∷ order (membersOf o)) = omega arith in
+      let x-in : 0 < tally x (256 ∷ order (membersOf o)) = omega arith in
       record {
         place = in-array (membersOf o) l x i;
         next = omega (arith, at-most-root (membersOf o) l n (next-in (membersOf o) l x x-in));
         prev = omega (arith, at-most-root (membersOf o) l p (prev-in (membersOf o) l x x-in));
-        some = omega (arith, count-in x (order (membersOf o)) i, length-order (membersOf o));
+        some = omega (arith, tally-in x (order (membersOf o)) i, length-order (membersOf o));
       }
 
   abbrev pub r : List ℕ → Arrays
@@ -87,8 +87,8 @@ module _ (o : Arrays) (s : Sized o) (g : Sound o) (x : ℕ) (i : 0 < count x (or
     holds =
         relist
         (rw left-now (omega (arith, length-keep (λ y. not (eqb y x)) ks, g .index .few)))
-        (λ j m. rw left-now (count-mem j (without x ks) (let w = without-mem x ks j m in in-without x j ks (mem-count j ks (w .0)) (w .1))))
-        (λ j m. let w = of-without x j ks (mem-count j (without x ks) (subst (λ (l : List ℕ). List·Memᴰ j l) left-now m)) in mem-without x ks j (count-mem j ks (w .0)) (w .1))
+        (λ j m. rw left-now (tally-mem j (without x ks) (let w = without-mem x ks j m in in-without x j ks (mem-tally j ks (w .0)) (w .1))))
+        (λ j m. let w = of-without x j ks (mem-tally j (without x ks) (subst (λ (l : List ℕ). List·Memᴰ j l) left-now m)) in mem-without x ks j (tally-mem j ks (w .0)) (w .1))
         shut
 
     pub sized-now : Sized (r closed)
@@ -172,14 +172,14 @@ module _ (m : Arrays) (start turns : ℕ) (h : Sweepable m start turns) where
       split : order (membersOf o) ≡ t .front ++ q ∷ (ds ++ h .back)
       split = split-next vs (h .back) i q 256 more (t .here e) (t .front) (order (membersOf o)) (t .whole)
 
-      pub q-in : 0 < count q (order (membersOf o))
-      q-in = omega (arith, ap (count q) split, count-append q (t .front) (q ∷ (ds ++ h .back)), count-same q (ds ++ h .back))
+      pub q-in : 0 < tally q (order (membersOf o))
+      q-in = omega (arith, ap (tally q) split, tally-append q (t .front) (q ∷ (ds ++ h .back)), tally-same q (ds ++ h .back))
 
       next-q : at (o .«next_key») q ≡ getD (ds ++ h .back) 0 256
       next-q =
           let l = membersOf o in
-          let w = subst (λ (ws : List ℕ). Path (l .next) (l .prev) 256 ws 256) split (t .sound .chained .members .path) in
-          path-start (l .next) (l .prev) q (ds ++ h .back) 256 (path-split (l .next) (l .prev) 256 (t .front) q (ds ++ h .back) 256 w .1)
+          let w = subst (λ (ws : List ℕ). Route (l .next) (l .prev) 256 ws 256) split (t .sound .chained .members .route) in
+          route-start (l .next) (l .prev) q (ds ++ h .back) 256 (route-split (l .next) (l .prev) 256 (t .front) q (ds ++ h .back) 256 w .1)
 
       size-q : at (o .lengths) q ≡ at (m .lengths) q
       size-q = ap (λ (l : List ℕ). at l q) (t .kept .lengths)
@@ -227,8 +227,8 @@ module _ (m : Arrays) (start turns : ℕ) (h : Sweepable m start turns) where
             }
 
 -- the member numbers are those of m, of which the index loses one
-pub shut-gap : (m o : Arrays) → MembersOnly m o → Sound o → (x : ℕ) → 0 < count x (order (membersOf o)) → (closed : List ℕ)
+pub shut-gap : (m o : Arrays) → MembersOnly m o → Sound o → (x : ℕ) → 0 < tally x (order (membersOf o)) → (closed : List ℕ)
     → Removed (o .index) (m .keys) (at (m .keys) x) closed → Holds closed (o .keys) (T.without x (order (membersOf o)))
 shut-gap m o k g x i closed r =
     let ks = order (membersOf o) in
-    rw (k .keys) (r .gone ks x (subst (λ (l : List ℕ). Holds (o .index) l ks) (k .keys) (g .index)) (count-mem x ks i) refl)
+    rw (k .keys) (r .gone ks x (subst (λ (l : List ℕ). Holds (o .index) l ks) (k .keys) (g .index)) (tally-mem x ks i) refl)

@@ -5,7 +5,7 @@ use mathlib.Core.Logic.{_≢_}
 use mathlib.Core.List.{[], _∷_, _++_}
 use lib.ListN.{length}
 use Rattle.steps.specs.State.{add, maxMembers, maxRounds, maxTaken}
-use Rattle.links.specs.Path.{count}
+use Rattle.links.specs.Route.{tally}
 use Rattle.links.specs.Places.{order}
 use Rattle.links.specs.Links.{Chained, recordIn}
 use Rattle.index.specs.Table.{Holds, Vacant}
@@ -18,8 +18,8 @@ use Rattle.multimap.specs.Arrays.{Arrays, Sized}
 pub record Ready (m : Arrays) (key : ℕ) : Type 0 where
   pub sized : Sized m
   pub chained : Chained (linksOf m)
-  pub here : 0 < count key (order (membersOf m))
-  pub others : (j : ℕ) → 0 < count j (order (membersOf m)) → j ≢ key → 0 < length (recordIn (linksOf m) j)
+  pub here : 0 < tally key (order (membersOf m))
+  pub others : (j : ℕ) → 0 < tally j (order (membersOf m)) → j ≢ key → 0 < length (recordIn (linksOf m) j)
   pub index : Holds (m .index) (m .keys) (order (membersOf m))
   pub room : at (m .rounds) 0 < maxRounds
 
@@ -36,7 +36,7 @@ pub record Joins (m : Arrays) (k p : ℕ) : Type 0 where
   pub spare : at (m .members) 0 < maxMembers
   pub room : at (m .rounds) 0 < maxRounds
   pub vacant : Vacant (m .index) k p
-  pub new : (j : ℕ) → 0 < count j (order (membersOf m)) → at (m .keys) j ≢ k
+  pub new : (j : ℕ) → 0 < tally j (order (membersOf m)) → at (m .keys) j ≢ k
 
 -- the place of the last member
 abbrev pub lastKey : Arrays → ℕ

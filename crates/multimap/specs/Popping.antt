@@ -5,7 +5,7 @@ use mathlib.Core.Bool.{Bool, true, false, not}
 use mathlib.Core.List.{List, map}
 use Rattle.steps.specs.State.{Pair, has, remove-pair}
 use Rattle.steps.specs.Call.{Call, pop-front, pop-back, Answer, none, popped}
-use Rattle.links.specs.Path.{without}
+use Rattle.links.specs.Route.{without}
 use Rattle.links.specs.Places.{order}
 use Rattle.multimap.specs.Map.{pairAt, roundsOf, stateOf}
 use Rattle.multimap.specs.WellLinked.{WellLinked}

@@ -11,7 +11,7 @@ use lib.Dec.{eqb}
 use lib.ListN.{length}
 use Rattle.steps.specs.State.{Pair, of, has, rounds, maxTaken}
 use Rattle.steps.specs.Accounting.{times}
-use Rattle.links.specs.Path.{count, keep, Path}
+use Rattle.links.specs.Route.{tally, keep, Route}
 use Rattle.links.specs.Places.{Places, freed}
 use Rattle.index.specs.Search.{search}
 use Rattle.index.specs.Agree.{FoundKey}
@@ -21,18 +21,18 @@ use Rattle.multimap.specs.Arrays.{Arrays, Sized}
 -- The places xs are in use in the list l, in this order: next leads from the end cell through them and back, previous the other way; the count
 -- is theirs; and each other place that was ever used is met from the first freed one by next, in as many steps as there are others.
 pub record InUse (l : Places) (xs : List ℕ) : Type 0 where
-  pub linked : Path (l .next) (l .prev) (l .root) xs (l .root)
+  pub linked : Route (l .next) (l .prev) (l .root) xs (l .root)
   pub counted : l .len ≡ length xs
   pub few : l .len ≤ l .fresh
   pub fits : l .fresh ≤ l .root
-  pub others : (q : ℕ) → q < l .fresh → (0 < count q xs) ⊎ (0 < count q (freed l))
+  pub others : (q : ℕ) → q < l .fresh → (0 < tally q xs) ⊎ (0 < tally q (freed l))
 
 -- The index t leads to the member places ks, whose numbers stand in keys, and to nothing else: the search for a member's number finds its
 -- place; each place of the index is empty or holds one of ks; and none of ks stands in two.
 pub record LeadsTo (t keys ks : List ℕ) : Type 0 where
-  pub found : (x : ℕ) → 0 < count x ks → FoundKey x (search t keys (at keys x))
-  pub only : (p : ℕ) → p < 512 → (at t p ≡ 65535) ⊎ (0 < count (at t p) ks)
-  pub once : (p q : ℕ) → p < 512 → q < 512 → 0 < count (at t p) ks → at t p ≡ at t q → p ≡ q
+  pub found : (x : ℕ) → 0 < tally x ks → FoundKey x (search t keys (at keys x))
+  pub only : (p : ℕ) → p < 512 → (at t p ≡ 65535) ⊎ (0 < tally (at t p) ks)
+  pub once : (p q : ℕ) → p < 512 → q < 512 → 0 < tally (at t p) ks → at t p ≡ at t q → p ≡ q
 
 -- The arrays represent the pairs P and the members K.
 pub record Represents (m : Arrays) (P : List Pair) (K : List ℕ) : Type 0 where
@@ -46,11 +46,11 @@ pub record Represents (m : Arrays) (P : List Pair) (K : List ℕ) : Type 0 where
   pub member-list : InUse (membersOf m) ks
   pub members-are : map (at (m .keys)) ks ≡ K
   -- the member of each round stands in one of them
-  pub owned : (q : ℕ) → 0 < count q vs → 0 < count (at (m .«key_index») q) ks
+  pub owned : (q : ℕ) → 0 < tally q vs → 0 < tally (at (m .«key_index») q) ks
   -- the chain of a member goes through the places of its pairs, in P's order, and its length is that of its record
-  pub chain : (x : ℕ) → 0 < count x ks
-      → Path (at (m .«next_index»)) (at (m .«previous_index»)) (1024 + x) (keep (λ q. of (at (m .keys) x) (pairAt m q)) vs) (1024 + x)
-  pub lengths : (x : ℕ) → 0 < count x ks → at (m .lengths) x ≡ length (rounds (at (m .keys) x) P)
+  pub chain : (x : ℕ) → 0 < tally x ks
+      → Route (at (m .«next_index»)) (at (m .«previous_index»)) (1024 + x) (keep (λ q. of (at (m .keys) x) (pairAt m q)) vs) (1024 + x)
+  pub lengths : (x : ℕ) → 0 < tally x ks → at (m .lengths) x ≡ length (rounds (at (m .keys) x) P)
   pub index : LeadsTo (m .index) (m .keys) ks
 
 -- Module 6: the arrays represent some P and K, K holds each member of P exactly once and no other, and T is within its bound.

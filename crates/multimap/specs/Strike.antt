@@ -7,7 +7,7 @@ use mathlib.Core.List.{List, [], _∷_, _++_}
 use lib.Dec.{eqb}
 use lib.ListN.{length}
 use Rattle.steps.specs.State.{others, maxRounds}
-use Rattle.links.specs.Path.{pick, count, strip, walk}
+use Rattle.links.specs.Route.{pick, tally, strip, walk}
 use Rattle.links.specs.Places.{order}
 use Rattle.links.specs.Links.{Links, recordIn, Chained}
 use Rattle.index.specs.Table.{Holds}
@@ -60,21 +60,21 @@ pub record Struck (m : Arrays) (ws : List ℕ) (r : Arrays) : Type 0 where
 -- k is the place of a member of a well-linked map
 pub record MemberPlace (m : Arrays) (k : ℕ) : Type 0 where
   pub linked : WellLinked m
-  pub inside : 0 < count k (order (membersOf m))
+  pub inside : 0 < tally k (order (membersOf m))
 
 -- x is the place of a round of a well-linked map
 pub record RoundPlace (m : Arrays) (x : ℕ) : Type 0 where
   pub linked : WellLinked m
-  pub inside : 0 < count x (order (roundsOf m))
+  pub inside : 0 < tally x (order (roundsOf m))
 
 -- r is m without the rounds of the member place k, which is still in the list of members; it is well-linked but for that
 pub record Emptied (m : Arrays) (k : ℕ) (r : Arrays) : Type 0 where
   pub sized : Sized r
   pub chained : Chained (linksOf r)
   pub index : Holds (r .index) (r .keys) (order (membersOf r))
-  pub member : 0 < count k (order (membersOf r))
+  pub member : 0 < tally k (order (membersOf r))
   pub none : recordIn (linksOf r) k ≡ []
-  pub some : (j : ℕ) → 0 < count j (order (membersOf r)) → j ≢ k → 0 < length (recordIn (linksOf r) j)
+  pub some : (j : ℕ) → 0 < tally j (order (membersOf r)) → j ≢ k → 0 < length (recordIn (linksOf r) j)
   pub keys : r .keys ≡ m .keys
   pub ledger : ledgerOf r ≡ ledgerOf m
   pub room : at (r .rounds) 0 < maxRounds

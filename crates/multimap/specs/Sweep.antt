@@ -4,7 +4,7 @@ use mathlib.Core.Path.{_≡_}
 use mathlib.Core.List.{List, _++_}
 use lib.Dec.{eqb}
 use Rattle.steps.specs.State.{remove-member}
-use Rattle.links.specs.Path.{keep, strip, walk}
+use Rattle.links.specs.Route.{keep, strip, walk}
 use Rattle.links.specs.Places.{order}
 use Rattle.links.specs.Links.{Chained}
 use Rattle.index.specs.Table.{Holds}

@@ -7,7 +7,7 @@ use native.Mathlib.Omega.{arith}
 use native.Mathlib.Numerals.{add-one}
 use lib.ListN.{length, getD, set, length-set}
 use lib.Seq.{getD-set-same, getD-set-other}
-use Rattle.links.proofs.Paths.{same-or-not}
+use Rattle.links.proofs.Routes.{same-or-not}
 use Rattle.links.proofs.Lists.{length-walk}
 use Rattle.multimap.specs.Map.{at}
 use Rattle.multimap.proofs.Copies.{getD-in, beyond, walk-way}

@@ -5,7 +5,7 @@ use mathlib.Core.List.{List, [], _∷_, _++_, map}
 use native.Mathlib.Omega.{arith}
 use lib.ListN.{length}
 use Rattle.steps.specs.State.{Pair}
-use Rattle.links.specs.Path.{count}
+use Rattle.links.specs.Route.{tally}
 use Rattle.links.specs.Places.{Places, order}
 use Rattle.links.specs.Stores.{spot}
 use Rattle.links.proofs.Bare.{bare-order}
@@ -40,8 +40,8 @@ module _ (owners scores : List ℕ) (n : ℕ) (m : Arrays) (g : Fillable owners 
     held : at (r .rounds) 0 ≡ j
     held = sym (length-order (roundsOf r)) ∙ ap length (f .places) ∙ length-up j
 
-    here : 0 < count (at owners j) (order (membersOf r))
-    here = subst (λ (l : Places). 0 < count (at owners j) (order l)) (sym (f .members)) (g .owner j more)
+    here : 0 < tally (at owners j) (order (membersOf r))
+    here = subst (λ (l : Places). 0 < tally (at owners j) (order l)) (sym (f .members)) (g .owner j more)
 
     room : at (r .rounds) 0 < 1024
     room = omega (arith, held, g .few)

@@ -5,8 +5,8 @@ use mathlib.Core.Logic.{_≢_, ⊎-elim}
 use mathlib.Core.List.{List, [], _∷_, _++_, map}
 use native.Mathlib.Omega.{arith}
 use lib.ListN.{length, getD, length-map, List·getD-map}
-use Rattle.links.specs.Path.{count, walk}
-use Rattle.links.proofs.Paths.{same-or-not, count-same, count-other, Once}
+use Rattle.links.specs.Route.{tally, walk}
+use Rattle.links.proofs.Routes.{same-or-not, tally-same, tally-other, Once}
 use Rattle.links.proofs.Lists.{length-walk}
 use Rattle.multimap.proofs.Copies.{getD-in}
 use Rattle.multimap.proofs.Stores.{map-append}
@@ -23,7 +23,7 @@ pub nth-apart : (xs : List ℕ) (i j d : ℕ) → Once xs → i < j → j < leng
 nth-apart [] i j d o h k e = omega arith
 nth-apart (x ∷ xs) i zero d o h k e = omega arith
 nth-apart (x ∷ xs) zero (suc j) d o h k e =
-    omega (arith, o x, count-same x xs, subst (λ (y : ℕ). 0 < count y xs) (sym e) (getD-in xs j d (omega arith)))
+    omega (arith, o x, tally-same x xs, subst (λ (y : ℕ). 0 < tally y xs) (sym e) (getD-in xs j d (omega arith)))
 nth-apart (x ∷ xs) (suc i) (suc j) d o h k e = nth-apart xs i j d (λ q. omega (arith, o q)) (omega arith) (omega arith) e
 
 -- where a place stands
@@ -32,12 +32,12 @@ pub record Stands (q : ℕ) (xs : List ℕ) : Type 0 where
   pub inside : index < length xs
   pub is : getD xs index 0 ≡ q
 
-pub stands : (q : ℕ) (xs : List ℕ) → 0 < count q xs → Stands q xs
+pub stands : (q : ℕ) (xs : List ℕ) → 0 < tally q xs → Stands q xs
 stands q [] h = absurd (omega arith)
 stands q (x ∷ xs) h =
     ⊎-elim (λ (e : q ≡ x). record { index = 0; inside = omega arith; is = sym e })
     (λ (e : q ≢ x).
-    let s = stands q xs (omega (arith, count-other q x xs e)) in
+    let s = stands q xs (omega (arith, tally-other q x xs e)) in
     record { index = suc (s .index); inside = omega (arith, s .inside); is = s .is })
     (same-or-not q x)
 
@@ -69,10 +69,10 @@ nth-from s (suc n) (suc i) h = nth-from (suc s) n i (omega arith) ∙ omega arit
 pub nth-up : (n i : ℕ) → i < n → getD (upTo n) i 0 ≡ i
 nth-up n i h = nth-from 0 n i h ∙ omega arith
 
-pub below-in : (n k : ℕ) → k < n → 0 < count k (upTo n)
-below-in n k h = subst (λ (y : ℕ). 0 < count y (upTo n)) (nth-up n k h) (getD-in (upTo n) k 0 (rw (length-up n) h))
+pub below-in : (n k : ℕ) → k < n → 0 < tally k (upTo n)
+below-in n k h = subst (λ (y : ℕ). 0 < tally y (upTo n)) (nth-up n k h) (getD-in (upTo n) k 0 (rw (length-up n) h))
 
-pub in-below : (n k : ℕ) → 0 < count k (upTo n) → k < n
+pub in-below : (n k : ℕ) → 0 < tally k (upTo n) → k < n
 in-below n k h =
     let s = stands k (upTo n) h in
     let i : s .index < n = rw (length-up n) at (s .inside) in

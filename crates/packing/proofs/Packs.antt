@@ -13,13 +13,13 @@ use Rattle.steps.specs.Coded.{coded}
 use Rattle.steps.specs.Step.{step, checks, act, say}
 use Rattle.steps.specs.Told.{Told}
 use Rattle.steps.proofs.Doing.{does-refuse, does-pack}
-use Rattle.links.specs.Path.{count}
+use Rattle.links.specs.Route.{tally}
 use Rattle.links.specs.Places.{Places, order, Linked}
 use Rattle.links.proofs.Lists.{length-order, in-array, order-distinct}
 use Rattle.multimap.specs.Arrays.{Arrays, Sized, arrays}
 use Rattle.multimap.specs.Map.{at, pairAt, pairs, members, roundsOf, membersOf, stateOf}
 use Rattle.multimap.specs.WellLinked.{WellLinked, linked}
-use Rattle.multimap.proofs.Stores.{count-mem, length-pairs, length-members}
+use Rattle.multimap.proofs.Stores.{tally-mem, length-pairs, length-members}
 use Rattle.multimap.proofs.Copies.{getD-in}
 use Rattle.multimap.proofs.Sounds.{linked-sound, sound-linked}
 use Rattle.packing.specs.Building.{upTo, Distinct, MembersCopied, RoundsCopied, Apart, Seated, Fillable, Filled, Repacked}
@@ -153,13 +153,13 @@ module _ (m : Arrays) (g : WellLinked m) where
               let lj : j < length ks = rw (length-order (membersOf m)) l in
               let li : i < length ks = omega arith in
               let one : getD ks i 0 ≡ getD ks j 0 =
-              g .index .distinct (getD ks i 0) (getD ks j 0) (count-mem _ ks (getD-in ks i 0 li)) (count-mem _ ks (getD-in ks j 0 lj))
+              g .index .distinct (getD ks i 0) (getD ks j 0) (tally-mem _ ks (getD-in ks i 0 li)) (tally-mem _ ks (getD-in ks j 0 lj))
               (sym (a .number i li) ∙ e ∙ a .number j lj) in
               nth-apart ks i j 0 (members-distinct .once) h lj one;
         }
 
     -- the rank of a member place leads back to it
-    rank-is : (k : ℕ) → 0 < count k ks → (at ranks k < length ks) × (getD ks (at ranks k) 0 ≡ k)
+    rank-is : (k : ℕ) → 0 < tally k ks → (at ranks k < length ks) × (getD ks (at ranks k) 0 ≡ k)
     rank-is k i =
         let w = stands k ks i in
         let e : at ranks k ≡ w .index = ap (at ranks) (sym (w .is)) ∙ a .rank (w .index) (w .inside) in
@@ -172,7 +172,7 @@ module _ (m : Arrays) (g : WellLinked m) where
       abbrev old : ℕ → ℕ
       old j = at (m .«key_index») (getD vs j 0)
 
-      known : (j : ℕ) → j < length vs → 0 < count (old j) ks
+      known : (j : ℕ) → j < length vs → 0 < tally (old j) ks
       known j h = g .chained .keys (getD vs j 0) (getD-in vs j 0 h)
 
       low : (j : ℕ) → j < length vs → at owners j < at (m .members) 0

@@ -15,7 +15,7 @@ use Rattle.index.proofs.Finds.{says-at}
 use Rattle.multimap.specs.Arrays.{Arrays}
 use Rattle.multimap.specs.Map.{at, members, membersOf}
 use Rattle.multimap.specs.Changes.{withMember}
-use Rattle.multimap.proofs.Stores.{mem-count}
+use Rattle.multimap.proofs.Stores.{mem-tally}
 use Rattle.multimap.proofs.Builds.{Admits, admits, member-order, member-members, member-sound}
 use Rattle.packing.specs.Building.{upTo, Apart, Seated}
 use Rattle.packing.proofs.Lists.{up-more, map-more, length-up, in-below, map-same-up}
@@ -40,7 +40,7 @@ module _ (numbers : List ℕ) (i : ℕ) (m : Arrays) (s : Seated numbers i m) wh
   pub not-seated : (n : ℕ) → Apart numbers n → i < n → (p l : ℕ) (x : KeyPlace) → search (m .index) (m .keys) (at numbers i) ≡ At p x l → ⊥
   not-seated n a more p l x e =
       let w = says-at (m .index) (m .keys) (order (membersOf m)) (at numbers i) (s .sound .index) p l x e in
-      let low : x .0 < i = in-below i (x .0) (rw (s .places) at (mem-count (x .0) (order (membersOf m)) (w .2))) in
+      let low : x .0 < i = in-below i (x .0) (rw (s .places) at (mem-tally (x .0) (order (membersOf m)) (w .2))) in
       a .apart (x .0) i low more (sym (number (x .0) low) ∙ w .3)
 
   pub seat-more : i < 256 → (p l : ℕ) → search (m .index) (m .keys) (at numbers i) ≡ Absent p l

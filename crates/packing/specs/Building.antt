@@ -4,7 +4,7 @@ use mathlib.Core.Path.{_≡_}
 use mathlib.Core.Logic.{_≢_}
 use mathlib.Core.List.{List, map}
 use lib.ListN.{length, getD, replicate}
-use Rattle.links.specs.Path.{count, walk}
+use Rattle.links.specs.Route.{tally, walk}
 use Rattle.links.specs.Places.{order}
 use Rattle.multimap.specs.Arrays.{Arrays}
 use Rattle.multimap.specs.Map.{at, pairs, members, roundsOf, membersOf, stateOf}
@@ -24,8 +24,8 @@ listed next root counts = walk (at next) (at next root) (at counts 0)
 -- at most n places, all below n, each once
 pub record Distinct (xs : List ℕ) (n : ℕ) : Type 0 where
   pub few : length xs ≤ n
-  pub inside : (q : ℕ) → 0 < count q xs → q < n
-  pub once : (q : ℕ) → count q xs ≤ 1
+  pub inside : (q : ℕ) → 0 < tally q xs → q < n
+  pub once : (q : ℕ) → tally q xs ≤ 1
 
 -- `out` begins with f of the first n of the places xs
 abbrev pub Copied : (ℕ → ℕ) → List ℕ → ℕ → List ℕ → Type 0
@@ -61,7 +61,7 @@ pub record Fillable (owners : List ℕ) (n : ℕ) (m : Arrays) : Type 0 where
   pub sound : Sound m
   pub none : m .rounds ≡ replicate 3 0
   pub few : n ≤ 1024
-  pub owner : (j : ℕ) → j < n → 0 < count (at owners j) (order (membersOf m))
+  pub owner : (j : ℕ) → j < n → 0 < tally (at owners j) (order (membersOf m))
 
 -- r is m with n rounds, in the places from 0 on
 pub record Filled (m : Arrays) (owners scores : List ℕ) (n : ℕ) (r : Arrays) : Type 0 where

@@ -15,7 +15,7 @@ use Rattle.steps.specs.Step.{step, checks, act, settle, refusing, say, write, f
 use Rattle.steps.specs.Coded.{coded}
 use Rattle.steps.specs.Told.{Told}
 use Rattle.steps.proofs.Doing.{packs, does-stay}
-use Rattle.links.specs.Path.{walk}
+use Rattle.links.specs.Route.{walk}
 use Rattle.links.specs.Places.{order}
 use Rattle.multimap.specs.Arrays.{Arrays}
 use Rattle.multimap.specs.Map.{at, pairAt, pairs, members, roundsOf, stateOf}

@@ -13,11 +13,11 @@ use Rattle.steps.specs.Step.{step, checks, act, say, first}
 use Rattle.steps.specs.Told.{Told}
 use Rattle.steps.proofs.Doing.{does-stay, does-change}
 use Rattle.steps.proofs.Removals.{keep-all, keep-others}
-use Rattle.links.specs.Path.{pick, count, keep, without, strip, Path}
+use Rattle.links.specs.Route.{pick, tally, keep, without, strip, Route}
 use Rattle.links.specs.Places.{order}
 use Rattle.links.specs.Links.{recordOf, recordIn}
 use Rattle.links.specs.Stores.{at}
-use Rattle.links.proofs.Paths.{count-same, path-start, keep-same, keep-swap, without-split}
+use Rattle.links.proofs.Routes.{tally-same, route-start, keep-same, keep-swap, without-split}
 use Rattle.links.proofs.Lists.{order-distinct}
 use Rattle.links.proofs.Chains.{in-record, record-once}
 use Rattle.links.proofs.Strips.{strip-those}
@@ -83,22 +83,22 @@ module _ (a : Arrays) (g : WellLinked a) (k v : ℕ) (vs : List ℕ) (e : record
   abbrev key : ℕ → ℕ
   key = at (a .«key_index»)
 
-  v-in : 0 < count v (recordIn (linksOf a) k)
-  v-in = omega (arith, ap (count v) e, count-same v vs)
+  v-in : 0 < tally v (recordIn (linksOf a) k)
+  v-in = omega (arith, ap (tally v) e, tally-same v vs)
 
-  v-round : 0 < count v (order (roundsOf a))
+  v-round : 0 < tally v (order (roundsOf a))
   v-round = omega (arith, v-in, record-once key k v us)
 
-  k-in : 0 < count k (order (membersOf a))
-  k-in = subst (λ (y : ℕ). 0 < count y (order (membersOf a))) (in-record key k v us v-in) (g .chained .keys v v-round)
+  k-in : 0 < tally k (order (membersOf a))
+  k-in = subst (λ (y : ℕ). 0 < tally y (order (membersOf a))) (in-record key k v us v-in) (g .chained .keys v v-round)
 
   next-is : at (a .«next_index») v ≡ getD vs 0 (1024 + k)
   next-is =
-      path-start (at (a .«next_index»)) (at (a .«previous_index»)) v vs (1024 + k)
-      (subst (λ (l : List ℕ). Path (at (a .«next_index»)) (at (a .«previous_index»)) (1024 + k) l (1024 + k)) e (g .chained .chain k k-in) .2)
+      route-start (at (a .«next_index»)) (at (a .«previous_index»)) v vs (1024 + k)
+      (subst (λ (l : List ℕ). Route (at (a .«next_index»)) (at (a .«previous_index»)) (1024 + k) l (1024 + k)) e (g .chained .chain k k-in) .2)
 
-  once : (q : ℕ) → count q (v ∷ vs) ≤ 1
-  once q = omega (arith, ap (count q) e, record-once key k q us, order-distinct (roundsOf a) (g .chained .rounds) q)
+  once : (q : ℕ) → tally q (v ∷ vs) ≤ 1
+  once q = omega (arith, ap (tally q) e, record-once key k q us, order-distinct (roundsOf a) (g .chained .rounds) q)
 
   module _ {gone : Bool} (o : Arrays) (w : PairGone a v gone o) where
     record-now : recordIn (linksOf o) k ≡ vs
@@ -148,7 +148,7 @@ module _ (a : Arrays) (g : WellLinked a) (k x : ℕ) (m : Member a k x) where
   record-out r t =
       let q : at (a .«next_index») (baseOf x) ≡ getD R 0 (1024 + x) =
       ap (at (a .«next_index»)) (base-is x (m .inside))
-      ∙ path-start (at (a .«next_index»)) (at (a .«previous_index»)) (1024 + x) R (1024 + x) (m .path) in
+      ∙ route-start (at (a .«next_index»)) (at (a .«previous_index»)) (1024 + x) R (1024 + x) (m .route) in
       let d = expelled (at (a .lengths) x) R (at (a .«next_index») (baseOf x)) x a r g refl (m .size) q t in
       (d .0, d .1 ∙ ap (λ (ps : List Pair). keeping ps (stateOf a)) others-left ∙ keep-others k (stateOf a) (all-have a g))
 

@@ -15,7 +15,7 @@ use Rattle.steps.specs.State.{Pair, kept}
 use Rattle.steps.specs.Accounting.{times}
 use Rattle.steps.specs.Coded.{bit}
 use Rattle.steps.proofs.Filter.{length-filter}
-use Rattle.links.proofs.Paths.{same-or-not}
+use Rattle.links.proofs.Routes.{same-or-not}
 
 -- each mark is 0 or 1
 abbrev pub proper : List ℕ → Bool

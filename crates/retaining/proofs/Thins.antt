@@ -20,10 +20,10 @@ use Rattle.steps.specs.Told.{Told}
 use Rattle.steps.proofs.Doing.{does-refuse, does-change}
 use Rattle.steps.proofs.Filter.{any-append}
 use Rattle.steps.proofs.Removals.{keep-all, kept-has}
-use Rattle.links.specs.Path.{count, without, Path}
+use Rattle.links.specs.Route.{tally, without, Route}
 use Rattle.links.specs.Places.{order}
 use Rattle.links.specs.Stores.{at}
-use Rattle.links.proofs.Paths.{same-or-not, count-same, count-append, path-split, path-start}
+use Rattle.links.proofs.Routes.{same-or-not, tally-same, tally-append, route-split, route-start}
 use Rattle.links.proofs.Lists.{order-without, length-order}
 use Rattle.multimap.specs.Arrays.{Arrays}
 use Rattle.multimap.specs.Changes.{Left}
@@ -87,14 +87,14 @@ remaining a front ms vs = map (pairAt a) front ++ kept ms (map (pairAt a) vs)
 -- ---- one round of a well-linked map
 
 module _ (a : Arrays) (g : WellLinked a) (front : List ℕ) (v : ℕ) (vs : List ℕ) (e : order (roundsOf a) ≡ front ++ (v ∷ vs)) where
-  v-in : 0 < count v (order (roundsOf a))
-  v-in = omega (arith, ap (count v) e, count-append v front (v ∷ vs), count-same v vs)
+  v-in : 0 < tally v (order (roundsOf a))
+  v-in = omega (arith, ap (tally v) e, tally-append v front (v ∷ vs), tally-same v vs)
 
   next-is : at (a .«next_value») v ≡ getD vs 0 1024
   next-is =
-      path-start (at (a .«next_value»)) (at (a .«previous_value»)) v vs 1024
-      (path-split (at (a .«next_value»)) (at (a .«previous_value»)) 1024 front v vs 1024
-      (subst (λ (l : List ℕ). Path (at (a .«next_value»)) (at (a .«previous_value»)) 1024 l 1024) e (g .chained .rounds .path)) .1)
+      route-start (at (a .«next_value»)) (at (a .«previous_value»)) v vs 1024
+      (route-split (at (a .«next_value»)) (at (a .«previous_value»)) 1024 front v vs 1024
+      (subst (λ (l : List ℕ). Route (at (a .«next_value»)) (at (a .«previous_value»)) 1024 l 1024) e (g .chained .rounds .route)) .1)
 
   left-is : without v (order (roundsOf a)) ≡ front ++ vs
   left-is = order-without (roundsOf a) (g .chained .rounds) front v vs e
@@ -214,7 +214,7 @@ module _ (ms : List ℕ) (a : Arrays) (g : WellLinked a) where
       result : WellLinked r × (stateOf r ≡ keep (kept ms (pairs a)) (stateOf a))
       result =
           thinned ms [] (order (roundsOf a)) (at (a .«next_value») 1024) a r g refl
-          (path-start (at (a .«next_value»)) (at (a .«previous_value»)) 1024 (order (roundsOf a)) 1024 (g .chained .rounds .path))
+          (route-start (at (a .«next_value»)) (at (a .«previous_value»)) 1024 (order (roundsOf a)) 1024 (g .chained .rounds .route))
           (long ∙ sym (length-order (roundsOf a))) fine t
 
       many : length (kept ms (pairs a)) ≡ ones

@@ -11,7 +11,7 @@ use borrow.Author.Tests.{ne-eqb}
 use Rattle.steps.specs.Call.{callOf, lends, lendsTwo, taken}
 use Rattle.steps.specs.Told.{Told}
 use Rattle.answers.proofs.Reading.{NoneFrom, at-least}
-use Rattle.links.proofs.Paths.{same-or-not}
+use Rattle.links.proofs.Routes.{same-or-not}
 use Rattle.multimap.specs.Arrays.{Arrays}
 use Rattle.multimap.specs.WellLinked.{linked}
 use Rattle.turn_first.specs.Turned.{Turned}

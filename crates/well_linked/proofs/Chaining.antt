@@ -10,9 +10,9 @@ use borrow.Author.Tests.{eq-eqb, ne-eqb}
 use lib.Dec.{eqb}
 use lib.ListN.{length, getD, set, length-set}
 use lib.Seq.{getD-set-same, getD-set-other}
-use Rattle.links.specs.Path.{count, Path}
+use Rattle.links.specs.Route.{tally, Route}
 use Rattle.links.specs.Links.{recordOf}
-use Rattle.links.proofs.Paths.{same-or-not, count-same, count-other, length-keep}
+use Rattle.links.proofs.Routes.{same-or-not, tally-same, tally-other, length-keep}
 use Rattle.index.proofs.Agree.{true-false}
 use Rattle.links.specs.Stores.{at}
 use Rattle.well_linked.specs.Chains.{Used, From, Closed, Begun, Chains, Followed, Walked}
@@ -27,8 +27,8 @@ module _ {key next prev : ℕ → ℕ} {all : List ℕ} {used : List Bool} {tail
 
 -- the rounds `all` and those still to come, with the last cell of each chain and its number of rounds so far
 pub record Chaining (key next prev : ℕ → ℕ) (all : List ℕ) (used : List Bool) (tail many rest : List ℕ) : Type 0 where
-  pub keys : (q : ℕ) → 0 < count q all → Used used (key q) ⊎ (0 < count q rest)
-  pub part : (q : ℕ) → 0 < count q rest → 0 < count q all
+  pub keys : (q : ℕ) → 0 < tally q all → Used used (key q) ⊎ (0 < tally q rest)
+  pub part : (q : ℕ) → 0 < tally q rest → 0 < tally q all
   pub to : (k : ℕ) → k < 256 → From key next prev all (1024 + k) k → From key next prev rest (at tail k) k
   pub of : (k : ℕ) → k < 256 → From key next prev rest (at tail k) k → From key next prev all (1024 + k) k
   pub counted : (k : ℕ) → k < 256 → at many k + length (recordOf key k rest) ≡ length (recordOf key k all)
@@ -57,14 +57,14 @@ module _ {key next prev : ℕ → ℕ} {all : List ℕ} {used : List Bool} {tail
     none : (k : ℕ) → recordOf key k rest ≡ []
     none k = ap (recordOf key k) e
 
-    all-used : (q : ℕ) → 0 < count q all → Used used (key q)
-    all-used q h = ⊎-elim (λ u. u) (λ (i : 0 < count q rest). absurd (omega (arith, ap (count q) e))) (c .keys q h)
+    all-used : (q : ℕ) → 0 < tally q all → Used used (key q)
+    all-used q h = ⊎-elim (λ u. u) (λ (i : 0 < tally q rest). absurd (omega (arith, ap (tally q) e))) (c .keys q h)
 
     closed : (k : ℕ) → k < 256 → From key next prev all (1024 + k) k → Closed next prev (at tail k) k
-    closed k l w = subst (λ (xs : List ℕ). Path next prev (at tail k) xs (1024 + k)) (none k) (c .to k l w)
+    closed k l w = subst (λ (xs : List ℕ). Route next prev (at tail k) xs (1024 + k)) (none k) (c .to k l w)
 
     chained : (k : ℕ) → k < 256 → Closed next prev (at tail k) k → From key next prev all (1024 + k) k
-    chained k l w = c .of k l (subst (λ (xs : List ℕ). Path next prev (at tail k) xs (1024 + k)) (sym (none k)) w)
+    chained k l w = c .of k l (subst (λ (xs : List ℕ). Route next prev (at tail k) xs (1024 + k)) (sym (none k)) w)
 
     all-counted : (k : ℕ) → k < 256 → at many k ≡ length (recordOf key k all)
     all-counted k l = omega (arith, c .counted k l, ap length (none k))
@@ -74,8 +74,8 @@ module _ {key next prev : ℕ → ℕ} {all : List ℕ} {used : List Bool} {tail
 
   -- x is the next round
   module _ {x : ℕ} {xs : List ℕ} (e : rest ≡ x ∷ xs) where
-    pub x-in : 0 < count x all
-    x-in = c .part x (rw (e, count-same) (omega arith))
+    pub x-in : 0 < tally x all
+    x-in = c .part x (rw (e, tally-same) (omega arith))
 
     own : recordOf key (key x) rest ≡ x ∷ recordOf key (key x) xs
     own = rw (e, eq-eqb (key x) (key x) refl)
@@ -86,7 +86,7 @@ module _ {key next prev : ℕ → ℕ} {all : List ℕ} {used : List Bool} {tail
     -- the chain of x's member place goes on with x
     pub joins : key x < 256 → From key next prev all (1024 + key x) (key x)
         → (next (at tail (key x)) ≡ x) × (prev x ≡ at tail (key x))
-    joins l w = let p = subst (λ (ys : List ℕ). Path next prev (at tail (key x)) ys (1024 + key x)) own (c .to (key x) l w) in (p .0, p .1)
+    joins l w = let p = subst (λ (ys : List ℕ). Route next prev (at tail (key x)) ys (1024 + key x)) own (c .to (key x) l w) in (p .0, p .1)
 
     -- its number of rounds is at most that of all rounds
     pub room : key x < 256 → at many (key x) < length all
@@ -111,7 +111,7 @@ module _ {key next prev : ℕ → ℕ} {all : List ℕ} {used : List Bool} {tail
       there j i = getD-set-other tail (key x) j x 0 i
 
       to-own : From key next prev all (1024 + key x) (key x) → From key next prev xs (at tail′ (key x)) (key x)
-      to-own w = rw here (subst (λ (ys : List ℕ). Path next prev (at tail (key x)) ys (1024 + key x)) own (c .to (key x) l w) .2)
+      to-own w = rw here (subst (λ (ys : List ℕ). Route next prev (at tail (key x)) ys (1024 + key x)) own (c .to (key x) l w) .2)
 
       of-own : From key next prev xs (at tail′ (key x)) (key x) → From key next prev all (1024 + key x) (key x)
       of-own w = c .of (key x) l (rw own (n, p, rw here at w))
@@ -122,15 +122,15 @@ module _ {key next prev : ℕ → ℕ} {all : List ℕ} {used : List Bool} {tail
       of-other : (j : ℕ) → j ≢ key x → j < 256 → From key next prev xs (at tail′ j) j → From key next prev all (1024 + j) j
       of-other j i h w = c .of j h (rw (other j (λ e. i (sym e))) (rw (there j i) at w))
 
-      met-or-left : (q : ℕ) → 0 < count q rest → Used used (key q) ⊎ (0 < count q xs)
+      met-or-left : (q : ℕ) → 0 < tally q rest → Used used (key q) ⊎ (0 < tally q xs)
       met-or-left q i =
           ⊎-elim (λ (j : q ≡ x). inl (ap (λ (y : ℕ). getD used (key y) false) j ∙ u))
-          (λ (j : q ≢ x). inr (omega (arith, ap (count q) e, count-other q x xs j))) (same-or-not q x)
+          (λ (j : q ≢ x). inr (omega (arith, ap (tally q) e, tally-other q x xs j))) (same-or-not q x)
 
       pub chaining-one : Chaining key next prev all used (set tail (key x) x) (set many (key x) (at many (key x) + 1)) xs
       chaining-one =
           record {
-            keys = λ q h. ⊎-elim (λ v. inl v) (λ (i : 0 < count q rest). met-or-left q i) (c .keys q h);
+            keys = λ q h. ⊎-elim (λ v. inl v) (λ (i : 0 < tally q rest). met-or-left q i) (c .keys q h);
             part = λ q h. c .part q (rw e (omega arith));
             to = λ j h. ⊎-elim
                 (λ (i : j ≡ key x). subst (λ (y : ℕ). From key next prev all (1024 + y) y → From key next prev xs (at tail′ y) y) (sym i)

@@ -9,13 +9,13 @@ use native.Mathlib.Omega.{arith}
 use native.Mathlib.Nat.{lt-of-not-le}
 use lib.ListN.{length, getD, set, length-set}
 use lib.Seq.{getD-set-same, getD-set-other}
-use Rattle.links.specs.Path.{one, count, walk}
-use Rattle.links.proofs.Paths.{same-or-not, count-same, count-hit, count-other}
+use Rattle.links.specs.Route.{bit, tally, walk}
+use Rattle.links.proofs.Routes.{same-or-not, tally-same, tally-hit, tally-other}
 use Rattle.well_linked.specs.Marks.{marks, Marks}
 
-one-le : (b : Bool) → one b ≤ 1
-one-le true = omega arith
-one-le false = omega arith
+bit-le : (b : Bool) → bit b ≤ 1
+bit-le true = omega arith
+bit-le false = omega arith
 
 -- the walk, place by place
 pub walk-more : (n : ℕ → ℕ) (s many i : ℕ) → i < many → walk n s (many - i) ≡ s ∷ walk n (n s) (many - (i + 1))
@@ -25,13 +25,13 @@ pub walk-done : (n : ℕ → ℕ) (s many i : ℕ) → many ≤ i → walk n s (
 walk-done n s many i h = let e : many - i ≡ 0 = omega arith in ap (walk n s) e
 
 pub record Marking (f : ℕ) (all : List ℕ) (met₀ met : List Bool) (rest : List ℕ) : Type 0 where
-  pub tally : (q : ℕ) → marks met q + count q rest ≡ marks met₀ q + count q all
+  pub sums : (q : ℕ) → marks met q + tally q rest ≡ marks met₀ q + tally q all
   -- the places passed are below f
-  pub far : (q : ℕ) → f ≤ q → count q rest ≡ count q all
+  pub far : (q : ℕ) → f ≤ q → tally q rest ≡ tally q all
   pub long : length met ≡ length met₀
 
 pub marking-none : (f : ℕ) (all : List ℕ) (met : List Bool) → Marking f all met met all
-marking-none f all met = record { tally = λ q. refl; far = λ q h. refl; long = refl }
+marking-none f all met = record { sums = λ q. refl; far = λ q h. refl; long = refl }
 
 module _ {f : ℕ} {all : List ℕ} {met₀ met : List Bool} {rest : List ℕ} (m : Marking f all met₀ met rest) where
   pub marking-all : rest ≡ [] → Marks f all met₀ met true
@@ -39,22 +39,22 @@ module _ {f : ℕ} {all : List ℕ} {met₀ met : List Bool} {rest : List ℕ} (
       record {
         decided =
             record {
-              once = λ q. omega (arith, m .tally q, ap (count q) e, one-le (getD met q false));
-              below = λ q h. lt-of-not-le (λ i. omega (arith, m .far q i, ap (count q) e));
+              once = λ q. omega (arith, m .sums q, ap (tally q) e, bit-le (getD met q false));
+              below = λ q h. lt-of-not-le (λ i. omega (arith, m .far q i, ap (tally q) e));
             };
-        marked = λ r q. omega (arith, m .tally q, ap (count q) e);
+        marked = λ r q. omega (arith, m .sums q, ap (tally q) e);
       }
 
   module _ {x : ℕ} {xs : List ℕ} (e : rest ≡ x ∷ xs) where
     pub marking-one : x < f → f ≤ length met₀ → getD met x false ≡ false → Marking f all met₀ (set met x true) xs
     marking-one l h u =
         record {
-          tally =
+          sums =
               λ q. ⊎-elim
-              (λ (i : q ≡ x). omega (arith, m .tally q, ap (count q) e, count-hit q x xs i, ap one (marked-here q i), ap one (free-here q i)))
-              (λ (i : q ≢ x). omega (arith, m .tally q, ap (count q) e, count-other q x xs i, ap one (getD-set-other met x q true false i)))
+              (λ (i : q ≡ x). omega (arith, m .sums q, ap (tally q) e, tally-hit q x xs i, ap bit (marked-here q i), ap bit (free-here q i)))
+              (λ (i : q ≢ x). omega (arith, m .sums q, ap (tally q) e, tally-other q x xs i, ap bit (getD-set-other met x q true false i)))
               (same-or-not q x);
-          far = λ q i. sym (ap (count q) e ∙ count-other q x xs (λ j. omega (arith, j))) ∙ m .far q i;
+          far = λ q i. sym (ap (tally q) e ∙ tally-other q x xs (λ j. omega (arith, j))) ∙ m .far q i;
           long = length-set met x true ∙ m .long;
         }
       where
@@ -65,18 +65,18 @@ module _ {f : ℕ} {all : List ℕ} {met₀ met : List Bool} {rest : List ℕ} (
         free-here q i = ap (λ (j : ℕ). getD met j false) i ∙ u
 
     refuse : {P : Type 0} → _≡_ {A = Bool} false true → P
-    refuse r = absurd (omega (arith, ap one r))
+    refuse r = absurd (omega (arith, ap bit r))
 
     pub marking-far : (met′ : List Bool) → f ≤ x → Marks f all met₀ met′ false
     marking-far met′ h =
         record {
-          decided = λ w. omega (arith, w .below x (omega (arith, m .far x h, ap (count x) e, count-same x xs)));
+          decided = λ w. omega (arith, w .below x (omega (arith, m .far x h, ap (tally x) e, tally-same x xs)));
           marked = λ r. refuse r;
         }
 
     pub marking-seen : (met′ : List Bool) → getD met x false ≡ true → Marks f all met₀ met′ false
     marking-seen met′ u =
         record {
-          decided = λ w. omega (arith, w .once x, m .tally x, ap (count x) e, count-same x xs, ap one u);
+          decided = λ w. omega (arith, w .once x, m .sums x, ap (tally x) e, tally-same x xs, ap bit u);
           marked = λ r. refuse r;
         }

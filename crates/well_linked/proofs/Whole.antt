@@ -8,13 +8,13 @@ use lib.ListN.{length, getD, replicate, length-replicate}
 use Rattle.steps.specs.State.{maxTaken}
 use Rattle.index.specs.Agree.{Lists}
 use Rattle.index.specs.Table.{Holds}
-use Rattle.links.specs.Path.{one, count}
+use Rattle.links.specs.Route.{bit, tally}
 use Rattle.links.specs.Places.{order, Linked}
 use Rattle.links.proofs.Lists.{length-order, in-array}
 use Rattle.multimap.specs.Arrays.{Arrays, Sized}
 use Rattle.multimap.specs.Map.{at, roundsOf, membersOf}
 use Rattle.multimap.specs.WellLinked.{WellLinked}
-use Rattle.multimap.proofs.Stores.{mem-count, count-mem}
+use Rattle.multimap.proofs.Stores.{mem-tally, tally-mem}
 use Rattle.well_linked.specs.Marks.{marks}
 use Rattle.well_linked.specs.Chains.{Used, Inside, Chains, Begun, Followed, Ends, Recorded}
 use Rattle.well_linked.proofs.Repeats.{repeated}
@@ -46,7 +46,7 @@ module _ {key next prev long : ℕ → ℕ} {all : List ℕ} {used : List Bool} 
           some = omega (arith, w .some k l u, f .counted k l);
         }
 
-one-true : (b : Bool) (n : ℕ) → one b ≡ n → 0 < n → b ≡ true
+one-true : (b : Bool) (n : ℕ) → bit b ≡ n → 0 < n → b ≡ true
 one-true true n e h = refl
 one-true false n e h = absurd (omega arith)
 
@@ -60,17 +60,17 @@ inside m g = record { below = in-array (roundsOf m) g; few = omega (arith, lengt
 
 -- both lists are linked, and the members in use are marked
 module _ (m : Arrays) (r : Linked (roundsOf m)) (g : Linked (membersOf m)) (used : List Bool)
-    (u : (q : ℕ) → marks used q ≡ count q (order (membersOf m))) where
+    (u : (q : ℕ) → marks used q ≡ tally q (order (membersOf m))) where
   abbrev ks : List ℕ
   ks = order (membersOf m)
 
-  to-use : (k : ℕ) → 0 < count k ks → Used used k
-  to-use k h = one-true (getD used k false) (count k ks) (u k) h
+  to-use : (k : ℕ) → 0 < tally k ks → Used used k
+  to-use k h = one-true (getD used k false) (tally k ks) (u k) h
 
-  of-use : (k : ℕ) → Used used k → 0 < count k ks
-  of-use k e = omega (arith, u k, ap one e)
+  of-use : (k : ℕ) → Used used k → 0 < tally k ks
+  of-use k e = omega (arith, u k, ap bit e)
 
-  below : (k : ℕ) → 0 < count k ks → k < 256
+  below : (k : ℕ) → 0 < tally k ks → k < 256
   below k h = in-array (membersOf m) g k h
 
   -- the marks list the members for the index
@@ -78,8 +78,8 @@ module _ (m : Arrays) (r : Linked (roundsOf m)) (g : Linked (membersOf m)) (used
   listed =
       record {
         few = omega (arith, length-order (membersOf m), g .some-used, g .some-fresh);
-        to = λ k l e. count-mem k ks (of-use k e);
-        of = λ k i. (below k (mem-count k ks i), to-use k (mem-count k ks i));
+        to = λ k l e. tally-mem k ks (of-use k e);
+        of = λ k i. (below k (mem-tally k ks i), to-use k (mem-tally k ks i));
       }
 
   pub recorded : WellLinked m → Records m used

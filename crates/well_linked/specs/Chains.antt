@@ -4,7 +4,7 @@ use mathlib.Core.Path.{_≡_}
 use mathlib.Core.Bool.{Bool, true, false}
 use mathlib.Core.List.{List, []}
 use lib.ListN.{length, getD}
-use Rattle.links.specs.Path.{count, walk, Path}
+use Rattle.links.specs.Route.{tally, walk, Route}
 use Rattle.links.specs.Links.{recordOf}
 use Rattle.links.specs.Stores.{at}
 
@@ -14,7 +14,7 @@ trail next n = walk (at next) (at next 1024) n
 
 -- they are places of rounds, and at most as many
 pub record Inside (all : List ℕ) : Type 0 where
-  pub below : (q : ℕ) → 0 < count q all → q < 1024
+  pub below : (q : ℕ) → 0 < tally q all → q < 1024
   pub few : length all ≤ 1024
 
 -- the member place k is in use
@@ -23,15 +23,15 @@ Used used k = getD used k false ≡ true
 
 -- from the cell a the rounds of the member place k among xs are met in order, and then k's base
 abbrev pub From : (key next prev : ℕ → ℕ) (xs : List ℕ) (a k : ℕ) → Type 0
-From key next prev xs a k = Path next prev a (recordOf key k xs) (1024 + k)
+From key next prev xs a k = Route next prev a (recordOf key k xs) (1024 + k)
 
 -- the cell a is the last of the chain of k
 abbrev pub Closed : (next prev : ℕ → ℕ) (a k : ℕ) → Type 0
-Closed next prev a k = Path next prev a [] (1024 + k)
+Closed next prev a k = Route next prev a [] (1024 + k)
 
 -- each round has a member place in use, and each of these a chain of its rounds
 pub record Chains (key next prev : ℕ → ℕ) (all : List ℕ) (used : List Bool) : Type 0 where
-  pub keys : (q : ℕ) → 0 < count q all → Used used (key q)
+  pub keys : (q : ℕ) → 0 < tally q all → Used used (key q)
   pub chain : (k : ℕ) → k < 256 → Used used k → From key next prev all (1024 + k) k
 
 -- no round is followed yet
@@ -43,7 +43,7 @@ pub record Begun (tail many : List ℕ) : Type 0 where
 
 -- All rounds are followed: `tail` has the cell that must be the last of each chain, and `many` the number of its rounds.
 pub record Followed (key next prev : ℕ → ℕ) (all : List ℕ) (used : List Bool) (tail many : List ℕ) : Type 0 where
-  pub keys : (q : ℕ) → 0 < count q all → Used used (key q)
+  pub keys : (q : ℕ) → 0 < tally q all → Used used (key q)
   pub to : (k : ℕ) → k < 256 → From key next prev all (1024 + k) k → Closed next prev (at tail k) k
   pub of : (k : ℕ) → k < 256 → Closed next prev (at tail k) k → From key next prev all (1024 + k) k
   pub counted : (k : ℕ) → k < 256 → at many k ≡ length (recordOf key k all)
@@ -67,7 +67,7 @@ Ends next prev long used tail many = (k : ℕ) → k < 256 → Used used k → E
 
 -- what a well-linked map asks of its members' records, besides the two lists and the index
 pub record Recorded (key next prev long : ℕ → ℕ) (all : List ℕ) (used : List Bool) : Type 0 where
-  pub keys : (q : ℕ) → 0 < count q all → Used used (key q)
+  pub keys : (q : ℕ) → 0 < tally q all → Used used (key q)
   pub chain : (k : ℕ) → k < 256 → Used used k → From key next prev all (1024 + k) k
   pub size : (k : ℕ) → k < 256 → Used used k → long k ≡ length (recordOf key k all)
   pub some : (k : ℕ) → k < 256 → Used used k → 0 < length (recordOf key k all)

@@ -5,7 +5,7 @@ use mathlib.Core.Bool.{Bool, true, false}
 use mathlib.Core.List.{List}
 use lib.ListN.{getD}
 use Rattle.index.specs.Agree.{Decides}
-use Rattle.links.specs.Path.{one, count}
+use Rattle.links.specs.Route.{bit, tally}
 use Rattle.links.specs.Places.{Places}
 use Rattle.links.specs.Stores.{at}
 
@@ -16,14 +16,14 @@ listOf next previous root counts =
 
 -- 1 where the place q is marked, else 0
 abbrev pub marks : List Bool → ℕ → ℕ
-marks met q = one (getD met q false)
+marks met q = bit (getD met q false)
 
 -- the places of xs are below f, none is marked, and none stands twice
 pub record New (f : ℕ) (met : List Bool) (xs : List ℕ) : Type 0 where
-  pub once : (q : ℕ) → marks met q + count q xs ≤ 1
-  pub below : (q : ℕ) → 0 < count q xs → q < f
+  pub once : (q : ℕ) → marks met q + tally q xs ≤ 1
+  pub below : (q : ℕ) → 0 < tally q xs → q < f
 
 -- r says whether the places of xs are new; if so, met′ has them marked besides those of met
 pub record Marks (f : ℕ) (xs : List ℕ) (met met′ : List Bool) (r : Bool) : Type 0 where
   pub decided : Decides r (New f met xs)
-  pub marked : r ≡ true → (q : ℕ) → marks met′ q ≡ marks met q + count q xs
+  pub marked : r ≡ true → (q : ℕ) → marks met′ q ≡ marks met q + tally q xs

@@ -15,7 +15,7 @@ ghost use mathlib.Core.Path.{_≡_};
 ghost use Prim.Native.Nat.{ℕ, _+_, _≤_, _<_};
 ghost use lib.ListN.{length};
 ghost use Rattle.index.specs.Agree.{Decides};
-ghost use Rattle.links.specs.Path.{count, walk, Path};
+ghost use Rattle.links.specs.Route.{tally, walk, Route};
 ghost use Rattle.links.specs.Places.{Linked};
 ghost use Rattle.links.specs.Stores.{at};
 ghost use Rattle.multimap.specs.Arrays.{Arrays};
@@ -140,8 +140,8 @@ fn mark(next: &[u16], from: u16, many: u16, fresh: u16, met: &mut [bool]) -> boo
 // Whether `previous` leads back along the `many` places that follow the end cell `root` by `next`, and the last of them leads to it.
 fn both_ways<'a>(next: &'a [u16], previous: &'a [u16], root: u16, many: u16) -> bool
     requires { ⌜ (root < length (now next)) × (length (now previous) ≡ length (now next))
-        × ((q : ℕ) → 0 < count q (walk (at (now next)) (at (now next) root) many) → q < length (now next)) ⌝ }
-    ensures { λ r. ⌜ Decides r (Path (at (now (next .entry))) (at (now (previous .entry))) root
+        × ((q : ℕ) → 0 < tally q (walk (at (now next)) (at (now next) root) many) → q < length (now next)) ⌝ }
+    ensures { λ r. ⌜ Decides r (Route (at (now (next .entry))) (at (now (previous .entry))) root
         (walk (at (now (next .entry))) (at (now (next .entry)) root) many) root) ⌝ }
 {
     let mut here = root;

@@ -6,7 +6,7 @@ use native.Mathlib.Omega.{arith}
 use borrow.Author.Needs.{needs}
 use lib.ListN.{length, set, length-set}
 use lib.Seq.{getD-set-same, getD-set-other}
-use Rattle.links.proofs.Paths.{same-or-not}
+use Rattle.links.proofs.Routes.{same-or-not}
 use Rattle.links.specs.Stores.{at}
 use Rattle.well_linked.proofs.bases.Statement.{statement}
 use Rattle.well_linked.proofs.bases.Tie as tie

@@ -1,4 +1,4 @@
--- `well_linked::both_ways` meets its contract: the path holds exactly if what is left of it does. Assumes nothing.
+-- `well_linked::both_ways` meets its contract: the route holds exactly if what is left of it does. Assumes nothing.
 use Prim.Native.Nat.{_-_}
 use native.Mathlib.Omega.{arith}
 use borrow.Author.Needs.{needs}

@@ -9,7 +9,7 @@ use borrow.Author.Tests.{not-true, not-false}
 use native.Mathlib.Nat.{sub-zero}
 use native.Mathlib.Omega.{arith}
 use borrow.Author.Needs.{needs}
-use Rattle.links.specs.Path.{count, walk}
+use Rattle.links.specs.Route.{tally, walk}
 use Rattle.links.specs.Stores.{at}
 use Rattle.index.proofs.Agree.{true-false}
 use Rattle.well_linked.specs.Chains.{trail, Used, Chains}
@@ -56,7 +56,7 @@ module _ (l : tie.In-loop Inv-loop μ-loop) where
   more : walk n x (len - l .before .loop .i) ≡ x ∷ walk n (n x) (len - (l .before .loop .i + 1))
   more = walk-more n x len (l .before .loop .i) (l .loop-test .taken)
 
-  here-in : 0 < count x (walk n (n 1024) len)
+  here-in : 0 < tally x (walk n (n 1024) len)
   here-in = x-in (l .before .loop .inv .2) more
 
   below : x < 1024

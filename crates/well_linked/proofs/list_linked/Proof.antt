@@ -1,4 +1,4 @@
--- `well_linked::list_linked` meets its contract: the places in use, the freed ones besides, and the path. Assumes nothing.
+-- `well_linked::list_linked` meets its contract: the places in use, the freed ones besides, and the route. Assumes nothing.
 use native.Mathlib.Omega.{arith}
 use borrow.Author.Needs.{needs}
 use borrow.Author.Tests.{not-true, not-false}
@@ -76,7 +76,7 @@ returns-5 c =
     let l : Places = list (start used) in
     decides-map (c .both-ways .result)
     (linked-so l 1024 (used .mark .ensures) (not-false _ (more .if3 .left)) (freed .mark2 .ensures) (not-false _ (last .if4 .left))
-    (omega arith) (omega arith)) (λ (g : Linked l). g .path) (c .both-ways .ensures)
+    (omega arith) (omega arith)) (λ (g : Linked l). g .route) (c .both-ways .ensures)
 
 pub list-linked-spec : {M : Type 1} → statement M
 list-linked-spec =

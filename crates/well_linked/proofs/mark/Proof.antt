@@ -3,7 +3,7 @@ use Prim.Native.Nat.{_-_, _≤_}
 use native.Mathlib.Nat.{sub-zero}
 use native.Mathlib.Omega.{arith}
 use borrow.Author.Needs.{needs}
-use Rattle.links.specs.Path.{walk}
+use Rattle.links.specs.Route.{walk}
 use Rattle.links.specs.Stores.{at}
 use Rattle.well_linked.proofs.Marking.{Marking, walk-more, walk-done, marking-none, marking-all, marking-one, marking-far, marking-seen}
 use Rattle.well_linked.proofs.mark.Statement.{statement}
