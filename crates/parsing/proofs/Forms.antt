@@ -12,7 +12,7 @@ use native.Mathlib.Nat.{eq-or-lt-of-le}
 use lib.Dec.{eqb, leb}
 use lib.Seq.{take-length}
 use lib.ListN.{length, getD, take, drop}
-use Rattle.parsing.specs.Line.{adds, inserts, removes, keeps, bad, all, isDigit, isMark, markOf, numberOf, onto, fields, alone, with-one, with-two, two, marked, fielded, formOf, lineOf}
+use Rattle.parsing.specs.Line.{adds, inserts, removes, keeps, bad, all, isDigit, isMark, markOf, numberOf, onto, fields, alone, with-one, with-two, ofNumbers, marked, fielded, formOf, lineOf}
 use Rattle.parsing.specs.Split.{gap}
 
 pub alone-bad : (c : ℕ) → (c ≡ 102 → ⊥) → (c ≡ 98 → ⊥) → (c ≡ 108 → ⊥) → (c ≡ 109 → ⊥) → (c ≡ 107 → ⊥) → bad ≡ alone c
@@ -62,7 +62,7 @@ same true b x = refl
 same false true x = refl
 same false false x = refl
 
-neither : (n : Option ℕ) (a b : Bool) → bad ≡ cond a (two adds n none) (cond b (two inserts n none) bad)
+neither : (n : Option ℕ) (a b : Bool) → bad ≡ cond a (ofNumbers adds n none) (cond b (ofNumbers inserts n none) bad)
 neither none a b = same a b bad
 neither (some k) a b = same a b bad
 

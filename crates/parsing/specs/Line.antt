@@ -70,14 +70,14 @@ fields [] = [] ∷ []
 fields (b ∷ bs) = cond (eqb b 32) ([] ∷ fields bs) (onto b (fields bs))
 
 -- the line that a number asks, and two
-abbrev pub one : (ℕ → Line) → Option ℕ → Line
-one f none = bad
-one f (some k) = f k
+abbrev pub ofNumber : (ℕ → Line) → Option ℕ → Line
+ofNumber f none = bad
+ofNumber f (some k) = f k
 
-abbrev pub two : (ℕ → ℕ → Line) → Option ℕ → Option ℕ → Line
-two f none n = bad
-two f (some k) none = bad
-two f (some k) (some v) = f k v
+abbrev pub ofNumbers : (ℕ → ℕ → Line) → Option ℕ → Option ℕ → Line
+ofNumbers f none n = bad
+ofNumbers f (some k) none = bad
+ofNumbers f (some k) (some v) = f k v
 
 -- one or more marks
 abbrev pub marked : List ℕ → Line
@@ -90,12 +90,12 @@ alone c = cond (eqb c 102) front (cond (eqb c 98) back (cond (eqb c 108) lists (
 
 -- a letter and a field: r, k
 abbrev pub with-one : ℕ → List ℕ → Line
-with-one c x = cond (eqb c 114) (one removes (numberOf x)) (cond (eqb c 107) (marked x) bad)
+with-one c x = cond (eqb c 114) (ofNumber removes (numberOf x)) (cond (eqb c 107) (marked x) bad)
 
 -- a letter and two fields: a, i
 abbrev pub with-two : ℕ → List ℕ → List ℕ → Line
 with-two c x y =
-    cond (eqb c 97) (two adds (numberOf x) (numberOf y)) (cond (eqb c 105) (two inserts (numberOf x) (numberOf y)) bad)
+    cond (eqb c 97) (ofNumbers adds (numberOf x) (numberOf y)) (cond (eqb c 105) (ofNumbers inserts (numberOf x) (numberOf y)) bad)
 
 -- a letter and its fields
 abbrev pub fielded : ℕ → List (List ℕ) → Line

@@ -77,9 +77,9 @@ abbrev pub moves : Call → State → Outcome → Flow
 moves c s o = cond (isRefused (o .answer)) (flow 0 0 0) (moved c s (o .answer))
 
 -- the same over a list of calls
-abbrev pub sum : Flow → Flow → Flow
-sum f g = flow (f .accepted + g .accepted) (f .handed + g .handed) (f .dropped + g .dropped)
+abbrev pub plus : Flow → Flow → Flow
+plus f g = flow (f .accepted + g .accepted) (f .handed + g .handed) (f .dropped + g .dropped)
 
 unfoldable pub flowOf : List Call → State → Flow
 flowOf [] s = flow 0 0 0
-flowOf (c ∷ cs) s = sum (moves c s (step c s .0)) (flowOf cs (step c s .1))
+flowOf (c ∷ cs) s = plus (moves c s (step c s .0)) (flowOf cs (step c s .1))

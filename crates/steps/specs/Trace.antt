@@ -9,7 +9,7 @@ use Rattle.steps.specs.State.{State, empty, maxRounds, maxTaken}
 use Rattle.steps.specs.Call.{Call, Outcome, refused, append, pack-to}
 use Rattle.steps.specs.Step as S
 use Rattle.steps.specs.Step.{step, after}
-use Rattle.steps.specs.Accounting.{isRefused, Flow, moves, sum}
+use Rattle.steps.specs.Accounting.{isRefused, Flow, moves, plus}
 use Rattle.steps.specs.Proper.{Proper}
 
 -- a kind of map: the state that one represents; what it is to be well-linked; and to have its places as pack_to leaves them
@@ -41,7 +41,7 @@ module _ {Map : Type 0} (M : Kind Map) where
   -- the rounds accepted, handed out and dropped, by what the map held and answered
   abbrev pub flowAlong : {cs : List Call} {m m′ : Map} {os : List Outcome} → Trace cs m os m′ → Flow
   flowAlong stop = record { accepted = 0; handed = 0; dropped = 0 }
-  flowAlong (call {c} {m} {o} d t) = sum (moves c (M .abs m) o) (flowAlong t)
+  flowAlong (call {c} {m} {o} d t) = plus (moves c (M .abs m) o) (flowAlong t)
 
   -- an append is refused by 1 exactly when 1,024 rounds are held just before it
   abbrev pub AppendExact : Call → Map → Outcome → Map → Type 0
