@@ -57,8 +57,8 @@ fn indexed(m: &Map, members: &[u16]) -> bool {
 }
 
 fn well_linked(m: &Map) -> bool {
-    let members = order(&m.next_key, &m.previous_key, m.members);
-    let rounds = order(&m.next_value, &m.previous_value, m.rounds);
+    let members = order(&m.next_key, &m.previous_key, [m.keys_len, m.keys_fresh, m.keys_free]);
+    let rounds = order(&m.next_value, &m.previous_value, [m.values_len, m.values_fresh, m.values_free]);
     members.zip(rounds).map_or(false, |(members, rounds)| {
         let known: HashSet<u16> = members.iter().copied().collect();
         let numbers: HashSet<u64> = members.iter().map(|p| m.keys[*p as usize]).collect();
@@ -123,8 +123,8 @@ fn damage(m: &mut Map, random: &mut Random) {
             let at = (start_place(random.below(12) as u64) as usize + random.below(3)) % 512;
             &mut m.index[at]
         }
-        9..=11 => &mut m.members[random.below(3)],
-        _ => &mut m.rounds[random.below(3)],
+        9..=11 => [&mut m.keys_len, &mut m.keys_fresh, &mut m.keys_free].into_iter().nth(random.below(3)).unwrap(),
+        _ => [&mut m.values_len, &mut m.values_fresh, &mut m.values_free].into_iter().nth(random.below(3)).unwrap(),
     };
     let new = any(random, *slot);
     *slot = new;

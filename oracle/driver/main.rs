@@ -8,6 +8,8 @@ mod clock;
 mod compare;
 mod crate_map;
 mod damage;
+#[path = "../../bindings/rust/src/declarations.rs"]
+mod declarations;
 mod faults;
 mod image;
 mod images;

@@ -52,6 +52,9 @@
 #![deny(missing_docs)]
 
 mod answer;
+#[cfg(test)]
+mod bounds;
+mod declarations;
 mod entry;
 mod error;
 mod ffi;
