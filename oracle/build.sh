@@ -1,11 +1,13 @@
 #!/bin/sh
 # Builds the Rust crate that the port is compared with: list_ordered_multimap.rs of ordered-multimap 0.7.3 as published,
-# over Debian's dlv-list and hashbrown, as target/oracle/libordered_multimap.rlib. Nothing is written outside target/.
-# ORACLE_SOURCE names the source file where it does not stand beside the work tree.
+# over Debian's dlv-list and hashbrown, as target/oracle/libordered_multimap.rlib. Nothing is written outside target/ and
+# oracle/debs/, which keeps what was fetched, since the gate empties target/. ORACLE_SOURCE names the source file where it does
+# not stand beside the work tree.
 set -eu
 
 root=$(cd "$(dirname "$0")/.." && pwd)
 out=$root/target/oracle
+debs=$root/oracle/debs
 source=${ORACLE_SOURCE:-$root/../shared/docs/src/src/list_ordered_multimap.rs}
 source_sha256=fb04d3f53b6cffd4cbcd8133da41817c1602f93c88a3cc75d79196e0eae0269b
 
@@ -20,10 +22,10 @@ has_sha256() {
 
 # Unpacks the package of this name, version and checksum to target/oracle/packages.
 unpack() {
-    deb=$out/debs/$1_$2_amd64.deb
+    deb=$debs/$1_$2_amd64.deb
     if ! has_sha256 "$deb" "$3"; then
         rm -f "$deb"
-        (cd "$out/debs" && apt-get -q -o APT::Sandbox::User=root download "$1=$2") ||
+        (cd "$debs" && apt-get -q -o APT::Sandbox::User=root download "$1=$2") ||
             die "apt-get does not give version $2 of $1: has 'apt-get update' been run, and is this Debian 12 on amd64?"
         has_sha256 "$deb" "$3" || die "$1 $2 came with another sha256 than $3"
     fi
@@ -37,7 +39,7 @@ library() {
 has_sha256 "$source" "$source_sha256" ||
     die "$source is missing, or has another sha256 than $source_sha256; ORACLE_SOURCE may name the file"
 
-mkdir -p "$out/debs" "$out/src"
+mkdir -p "$debs" "$out/src"
 rm -rf "$out/packages"
 unpack librust-dlv-list-dev 0.3.0-1 d90f69dc27770b6651692f31e9b069dfd4e81c99fcd676258a382703285e0f9d
 unpack librust-hashbrown-dev 0.12.3-1 86ca499697497d825a2e76f43648ad2d49cc65763964ff234ce32c4fc862f55f

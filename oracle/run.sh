@@ -1,7 +1,7 @@
 #!/bin/sh
 # Runs the comparison with the Rust crate, all of it from nothing: fetches by apt-get what is missing, builds the crate,
 # the port's static library (bindings/library.sh), the driver and, where its argument says so, the calls program. Nothing is
-# written to the repository outside target/, save by the arguments bench and sample.
+# written to the repository outside target/ and oracle/debs/, save by the arguments bench and sample.
 #
 #   oracle/run.sh [quick|full] [SEED]    the driver's own tests, the confirmed differences, the mixes of EntryValues, the
 #                                        stored sample, damaged records and images; then lists of calls (quick without an argument)
@@ -18,7 +18,7 @@ cd "$root"
 missing=
 command -v rustc >/dev/null || missing="$missing rustc"
 command -v cc >/dev/null || missing="$missing gcc libc6-dev"
-if [ -n "$missing" ] || ! ls target/oracle/debs/*.deb >/dev/null 2>&1; then
+if [ -n "$missing" ] || ! ls oracle/debs/*.deb >/dev/null 2>&1; then
     apt-get -q update || echo "apt-get update failed; going on with the lists that are there"
 fi
 if [ -n "$missing" ]; then

@@ -1,6 +1,6 @@
 #!/bin/sh
 # Times the Rust package beside the crate. ORACLE_SOURCE names the crate's source where it does not stand beside the
-# work tree (oracle/build.sh). Nothing is written outside target/.
+# work tree (oracle/build.sh). Nothing is written outside target/ and oracle/debs/.
 set -eu
 
 cd "$(dirname "$0")/../.."

@@ -1,7 +1,7 @@
 #!/bin/sh
 # Runs the two programs of docs/MIGRATION.md, the crate's and the package's, and shows that they print the same; and
 # that the page has them as they are. ORACLE_SOURCE names the crate's source where it does not stand beside the work
-# tree (oracle/build.sh). Nothing is written outside target/ and bindings/rust/target/.
+# tree (oracle/build.sh). Nothing is written outside target/, oracle/debs/ and bindings/rust/target/.
 set -eu
 
 cd "$(dirname "$0")/../.."
