@@ -20,7 +20,9 @@ RECORD = 'ListOrderedMultimap'
 # The function whose parameters are the record's arrays, in order.
 WHOLE = 'om_new'
 # Of each type of number: its bytes, and its name in C.
-NUMBERS = {'u8': (1, 'uint8_t'), 'u16': (2, 'uint16_t'), 'u32': (4, 'uint32_t'), 'u64': (8, 'uint64_t'), 'usize': (8, 'size_t'), 'bool': (1, 'bool')}
+NUMBERS = {
+    'u8': (1, 'uint8_t'), 'u16': (2, 'uint16_t'), 'u32': (4, 'uint32_t'), 'u64': (8, 'uint64_t'), 'usize': (8, 'size_t'),
+}
 WIDTH = 120
 
 
@@ -170,9 +172,12 @@ class Sources:
     def __init__(self, text):
         self.text = text
         self.code = re.sub(r'//[^\n]*', '', text)
-        self.types = dict(re.findall(r'^pub type (\w+) = (.*);$', self.code, re.M))
+        named = re.findall(r'^pub type (\w+) = (.*);$', self.code, re.M)
         # a struct of one number has the number's memory
-        self.types.update(re.findall(r'#\[repr\(C\)\]\s*pub struct (\w+)\(pub (\w+)\);', self.code))
+        named += re.findall(r'#\[repr\(C\)\]\s*pub struct (\w+)\(pub (\w+)\);', self.code)
+        self.types = dict(named)
+        if len(self.types) != len(set(named)):
+            sys.exit('two crates have types of one name')
 
     @staticmethod
     def read():
@@ -191,9 +196,11 @@ class Sources:
         sys.exit(f'{words}: no type that Rust and C are told of')
 
     def record(self):
-        body = re.search(rf'#\[repr\(C\)\]\s*pub struct {RECORD} \{{\n(.*?)\n\}}', self.text, re.S)[1]
+        found = re.search(rf'#\[repr\(C\)\]\s*pub struct {RECORD} \{{\n(.*?)\n\}}', self.text, re.S)
+        if not found:
+            sys.exit(f'there is no #[repr(C)] struct {RECORD}')
         fields, comments = [], []
-        for line in map(str.strip, body.split('\n')):
+        for line in map(str.strip, found[1].split('\n')):
             if line.startswith('// '):
                 comments.append(line[3:])
             else:
@@ -203,11 +210,17 @@ class Sources:
         return fields
 
     def functions(self):
-        found = re.findall(r'#\[no_mangle\](?:\s*#\[[^\]]*\])*\s*pub extern "C" fn (\w+)(?:<[^>]*>)?\((.*?)\)(?: -> (\w+))?\s*\n(.*?)\n?\{\n', self.code, re.S)
+        # its name, parameters, what it gives, and the clauses of its contract, up to the body
+        form = r'pub extern "C" fn (\w+)(?:<[^>]*>)?\((.*?)\)(?: -> (\w+))?\s*\n(.*?)\n?\{\n'
+        found = re.findall(r'#\[no_mangle\](?:\s*#\[[^\]]*\])*\s*' + form, self.code, re.S)
         if len(found) != self.code.count('#[no_mangle]'):
             sys.exit('a function marked #[no_mangle] has another form than those that are known')
         asks = re.compile(r'requires \{[^}]*\bWellLinked\b')
-        return [Function(name, self.parameters(words), gives, bool(asks.search(clauses))) for name, words, gives, clauses in found]
+        return [Function(name, self.parameters(words), self.given(gives), bool(asks.search(clauses)))
+                for name, words, gives, clauses in found]
+
+    def given(self, words):
+        return words if words in ('', RECORD) else str(self.type(words))
 
     def parameters(self, words):
         split = re.findall(r"(\w+): ((?:&(?:'\w+ )?(?:mut )?)?)(\[\w+(?:; \d+)?\]|\w+)", words)
@@ -218,9 +231,9 @@ class Sources:
     def parameter(self, name, access, passed):
         if passed == RECORD and not access:
             return Parameter(name, 'record')
-        slice = re.fullmatch(r'\[(\w+)\]', passed)
-        kind = 'slice' if slice else 'lent' if access else 'number'
-        return Parameter(name, kind, self.type(slice[1] if slice else passed), 'mut' in access)
+        element = re.fullmatch(r'\[(\w+)\]', passed)
+        kind = 'slice' if element else 'lent' if access else 'number'
+        return Parameter(name, kind, self.type(element[1] if element else passed), 'mut' in access)
 
 
 # Lays the parameters of the function that is lent everything over the record's fields: each on a field of its type and name (or
@@ -254,17 +267,16 @@ def aligned(at, to):
 
 
 def rust_file(library):
-    return '\n'.join([rust_head(library), rust_record(library), rust_lent_all(library), rust_lists(library), rust_others(library)])
+    return '\n'.join([RUST_HEAD, rust_record(library), rust_lent_all(library), rust_lists(library), rust_others(library)])
 
 
-def rust_head(library):
-    return f'''\
+RUST_HEAD = '''\
 // Made by tools/declarations.py from crates/*/src, and not to be edited: the record of libprelgammo.a, its functions, and
 // for each function that is lent arrays of a record one that takes a pointer to the record. A slice is a pointer and a
 // length.
 #![allow(clippy::too_many_arguments, dead_code, unsafe_code)]
 
-use core::ptr::{{addr_of, addr_of_mut}};
+use core::ptr::{addr_of, addr_of_mut};
 '''
 
 
@@ -298,7 +310,8 @@ fn same_layout() {{
 def rust_type(parameter):
     if parameter.kind == 'record':
         return 'Record'
-    return str(parameter.type) if parameter.kind == 'number' else f'*{"mut" if parameter.mutable else "const"} {parameter.type}'
+    access = '' if parameter.kind == 'number' else '*mut ' if parameter.mutable else '*const '
+    return f'{access}{parameter.type}'
 
 
 # The parameters as Rust declares them: a slice is a pointer and a length.
@@ -364,7 +377,8 @@ def rust_line(library, function):
     line = f'    {short(function)} {function.name}({", ".join(parameters)}){gives};'
     if len(line) <= WIDTH:
         return line
-    return '\n'.join([f'    {short(function)} {function.name}(', ',\n'.join(f'        {p}' for p in parameters), f'    ){gives};'])
+    parameters = ',\n'.join(f'        {p}' for p in parameters)
+    return f'    {short(function)} {function.name}(\n{parameters}\n    ){gives};'
 
 
 def short(function):
@@ -379,15 +393,14 @@ def rust_others(library):
     return f'extern "C" {{\n{declared}\n}}\n\n{records}\n'
 
 
-# A record that is given back is written where a pointer leads that is passed first (System V, amd64).
 def rust_declaration(library, function):
-    parameters, gives, comment, open = list(rust_parameters(function.parameters)), function.gives, '', 'pub '
+    parameters, gives, comment = list(rust_parameters(function.parameters)), function.gives, ''
     if gives == RECORD:
         parameters, gives = ['given: *mut Record'] + parameters, ''
         comment = '    // Gives a record back, for which the caller passes a pointer first (System V, amd64).\n'
-    if library.split(function)[0]:
-        open = ''
-    return comment + rust_call(f'    {open}fn {function.name}', parameters, f' -> {gives};' if gives else ';')
+    # one that is lent arrays is called by the function of a record
+    word = 'fn' if library.split(function)[0] else 'pub fn'
+    return comment + rust_call(f'    {word} {function.name}', parameters, f' -> {gives};' if gives else ';')
 
 
 def rust_of_record(library, function):
@@ -395,8 +408,9 @@ def rust_of_record(library, function):
     if library.changes(function):
         sys.exit(f'{function.name} changes some of the arrays and is not lent all')
     parameters = ['record: *const Record'] + list(rust_parameters(rest))
+    arguments = [rust_pointer(array, 'addr_of') for array in lent] + rust_arguments(rest)
     head = rust_call(f'pub unsafe fn {short(function)}', parameters, f' -> {function.gives} {{' if function.gives else ' {')
-    return '\n'.join([head, rust_call(f'    {function.name}', [rust_pointer(a, 'addr_of') for a in lent] + rust_arguments(rest), ''), '}'])
+    return '\n'.join([head, rust_call(f'    {function.name}', arguments, ''), '}'])
 
 
 # A head with a list in parentheses as rustfmt lays it out: on one line, or each on its own.
@@ -412,11 +426,10 @@ def rust_call(head, items, tail):
 
 
 def c_file(library):
-    return '\n'.join([c_head(library), c_record(library), c_declarations(library), c_of_map(library)])
+    return '\n'.join([C_HEAD, c_record(library), c_declarations(library), c_of_map(library)])
 
 
-def c_head(library):
-    return '''\
+C_HEAD = '''\
 /* Made by tools/declarations.py from the crates' sources, and not to be edited. A part of prelgammo.h, which includes it:
  * the fields of a map, the functions of libprelgammo.a, and the bodies of those that prelgammo.h describes. */
 '''
@@ -475,18 +488,18 @@ def c_gives(function):
 
 def c_declarations(library):
     whole = next(f for f in library.functions if f.name == WHOLE)
-    arrays = [words if words.startswith('const ') else f'CONST {words}' for words in c_parameters(whole.parameters)]
+    arrays = [f'CONST {words}' for words in c_parameters(whole.parameters)]
     lines = [c_declaration(library, function) for function in library.functions]
     return '\n'.join(['/* The functions of the library. They take the arrays of a map one by one. */',
                       c_macro('OM_ARRAYS(CONST)', arrays), '', *lines, '', '#undef OM_ARRAYS', ''])
 
 
 def c_declaration(library, function):
-    parameters = function.parameters
+    parameters = list(c_parameters(function.parameters))
     if library.lent_all(function):
-        rest = list(c_parameters(library.split(function)[1]))
-        return c_call(f'{c_gives(function)} {function.name}(', [f'OM_ARRAYS({"" if library.changes(function) else "const"})'] + rest, ');')
-    return c_call(f'{c_gives(function)} {function.name}(', list(c_parameters(parameters)), ');')
+        const = '' if library.changes(function) else 'const'
+        parameters = [f'OM_ARRAYS({const})'] + list(c_parameters(library.split(function)[1]))
+    return c_call(f'{c_gives(function)} {function.name}(', parameters, ');')
 
 
 def c_pointer(array):
@@ -495,8 +508,8 @@ def c_pointer(array):
 
 def c_of_map(library):
     bodies = [c_body(library, function) for function in library.functions if library.split(function)[0]]
-    return '\n'.join(['/* The arrays of the map m, in order. */', c_macro('OM_LENT', [c_pointer(a) for a in library.arrays]), '',
-                      '\n\n'.join(bodies), '', '#undef OM_LENT', ''])
+    lent = c_macro('OM_LENT', [c_pointer(array) for array in library.arrays])
+    return '\n'.join(['/* The arrays of the map m, in order. */', lent, '', '\n\n'.join(bodies), '', '#undef OM_LENT', ''])
 
 
 # The function of a map: it gives back the answer where the library's function writes one.
@@ -506,10 +519,10 @@ def c_body(library, function):
     says = bool(rest) and rest[-1].name == 'answer'
     shown = rest[:-1] if says else rest
     arguments += c_arguments(shown) + (['said.answer'] if says else [])
-    map = 'om_map *m' if library.changes(function) else 'const om_map *m'
+    taken = 'om_map *m' if library.changes(function) else 'const om_map *m'
     gives = 'om_said' if says else c_gives(function)
     call = f'    return {function.name}(' if function.gives and not says else f'    {function.name}('
-    lines = [c_call(f'static inline {gives} om_map_{short(function)}(', [map] + list(c_parameters(shown)), ') {')]
+    lines = [c_call(f'static inline {gives} om_map_{short(function)}(', [taken] + list(c_parameters(shown)), ') {')]
     lines += ['    om_said said;'] if says else []
     lines += ['    om_same_layout();'] if library.takes_any(function) else []
     lines += [c_call(call, arguments, ');')]

@@ -30,12 +30,13 @@ fn ready(library: PathBuf) -> PathBuf {
 
 // Only crates that have changed since they were last proved are proved again.
 fn prove(root: &Path) -> PathBuf {
-    println!("cargo:rerun-if-changed={}", root.join("crates").display());
-    println!("cargo:rerun-if-changed={}", root.join("crates.txt").display());
+    for part in ["crates", "crates.txt", "tools/declarations.py"] {
+        println!("cargo:rerun-if-changed={}", root.join(part).display());
+    }
     match Command::new("sh").arg("bindings/library.sh").current_dir(root).status() {
         Ok(status) if status.success() => root.join("target/bindings/libprelgammo.a"),
         Ok(status) => panic!(
-            "bindings/library.sh: {status}; it needs rt, the Rattle kit's command. PRELGAMMO_STATICLIB may name a libprelgammo.a instead"
+            "bindings/library.sh: {status}; it needs rt, the Rattle kit's command, python3 and cc. PRELGAMMO_STATICLIB may name a libprelgammo.a instead"
         ),
         Err(error) => panic!("sh: {error}"),
     }
