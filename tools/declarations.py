@@ -2,7 +2,8 @@
 # What Rust and C are told of libprelgammo.a, from the crates' sources: the `#[repr(C)]` record, and every function that is
 # marked `#[no_mangle] pub extern "C"`.
 #   tools/declarations.py             writes the files
-#   tools/declarations.py --check     says which of them are not as it would write them, and fails if one is not
+#   tools/declarations.py --check     fails, and says why, if one of them is not as it would write it, or if prelgammo.h does not
+#                                     describe a function
 #   tools/declarations.py --symbol    prints the name that the layout and the signatures give the archive
 # That name has a hash of them. The archive defines it (bindings/library.sh) and the files refer to it, so an archive of another
 # layout does not link.
@@ -15,6 +16,7 @@ from dataclasses import dataclass, field
 ROOT = pathlib.Path(__file__).resolve().parent.parent
 RUST = ROOT / 'bindings/rust/src/declarations.rs'
 C = ROOT / 'bindings/c/prelgammo_declarations.h'
+DESCRIBED = ROOT / 'bindings/c/prelgammo.h'
 
 RECORD = 'ListOrderedMultimap'
 # The function whose parameters are the record's arrays, in order.
@@ -48,6 +50,11 @@ def check(library):
     for path, text in files(library):
         if not path.exists() or path.read_text() != text:
             print(f'{path.relative_to(ROOT)} is not what tools/declarations.py writes: run it', file=sys.stderr)
+            status = 1
+    described = DESCRIBED.read_text()
+    for function in library.functions:
+        if library.split(function)[0] and f' {of_map(function)}(' not in described:
+            print(f'{DESCRIBED.relative_to(ROOT)} does not describe {of_map(function)}', file=sys.stderr)
             status = 1
     return status
 
@@ -512,6 +519,10 @@ def c_of_map(library):
     return '\n'.join(['/* The arrays of the map m, in order. */', lent, '', '\n\n'.join(bodies), '', '#undef OM_LENT', ''])
 
 
+def of_map(function):
+    return f'om_map_{short(function)}'
+
+
 # The function of a map: it gives back the answer where the library's function writes one.
 def c_body(library, function):
     lent, rest = library.split(function)
@@ -522,7 +533,7 @@ def c_body(library, function):
     taken = 'om_map *m' if library.changes(function) else 'const om_map *m'
     gives = 'om_said' if says else c_gives(function)
     call = f'    return {function.name}(' if function.gives and not says else f'    {function.name}('
-    lines = [c_call(f'static inline {gives} om_map_{short(function)}(', [taken] + list(c_parameters(shown)), ') {')]
+    lines = [c_call(f'static inline {gives} {of_map(function)}(', [taken] + list(c_parameters(shown)), ') {')]
     lines += ['    om_said said;'] if says else []
     lines += ['    om_same_layout();'] if library.takes_any(function) else []
     lines += [c_call(call, arguments, ');')]
