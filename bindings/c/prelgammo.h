@@ -5,9 +5,9 @@
  * these two made it and only calls of this header have changed it since, or that om_map_well_linked says 1 of it. A copy
  * of a well-linked map is one too. Threads may read one map together; a call that may change it has it alone.
  *
- * Stack: om_map_read_image writes to 33 KB of it, om_map_write_image to 17 KB, om_map_pack_to and om_map_call to 13 KB, each
- * other function of a map to less than 3 KB; replay to 38 KB, and om_turn, which has the map by value, to 101 KB, of which 48
- * KB are the caller's two copies. stack.c measures it and holds it to OM_STACK and OM_STACK_BY_VALUE.
+ * Stack: om_map_read_image takes 33 KB of it, om_map_write_image 17 KB, om_map_pack_to and om_map_call 13 KB, each other
+ * function of a map less than 3 KB; replay takes 38 KB, and om_turn, which has the map by value, 101 KB, of which 48 KB are
+ * the caller's two copies. stack.c measures it and holds it to OM_STACK and OM_STACK_BY_VALUE.
  *
  * A slice is a pointer and a length. The pointer is never NULL, also where the length is 0, and the slices of one call
  * overlap neither each other nor the map. An out slice may be longer than needed; what stands past the count that was
@@ -151,9 +151,9 @@ static inline om_said om_map_write_image(const om_map *m, uint8_t *out, size_t o
 /* Makes m the map of an image, whatever it was: OM_DONE. Refused by 11 to 14, with the empty map. */
 static inline om_said om_map_read_image(om_map *m, const uint8_t *bytes, size_t bytes_len);
 
-/* The library's own functions are declared in here: om_append and so on, which take the map's arrays one by one and which
- * those above call; om_turn, which is om_map_call with the map by value; and replay, which runs a list of calls from an empty
- * map and gives back how many it ran (oracle/README.md says how the list is laid out). */
+/* Declares the library's own functions: om_append and so on, which take the map's arrays one by one and which those above
+ * call; om_turn, which is om_map_call with the map by value; and replay, which runs a list of calls from an empty map and
+ * gives back how many it ran (oracle/README.md says how the list is laid out). */
 #include "prelgammo_declarations.h"
 
 #ifdef __cplusplus
