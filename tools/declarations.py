@@ -439,6 +439,9 @@ def c_file(library):
 C_HEAD = '''\
 /* Made by tools/declarations.py from the crates' sources, and not to be edited. A part of prelgammo.h, which includes it:
  * the fields of a map, the functions of libprelgammo.a, and the bodies of those that prelgammo.h describes. */
+#ifndef PRELGAMMO_H
+#error "include prelgammo.h, of which this file is a part"
+#endif
 '''
 
 

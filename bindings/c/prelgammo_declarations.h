@@ -1,5 +1,8 @@
 /* Made by tools/declarations.py from the crates' sources, and not to be edited. A part of prelgammo.h, which includes it:
  * the fields of a map, the functions of libprelgammo.a, and the bodies of those that prelgammo.h describes. */
+#ifndef PRELGAMMO_H
+#error "include prelgammo.h, of which this file is a part"
+#endif
 
 struct om_map {
     /* Of a member place: the member number, and how many rounds it has. */
