@@ -1,15 +1,16 @@
 #!/bin/sh
 # Builds the Rust crate that the port is compared with: list_ordered_multimap.rs of ordered-multimap 0.7.3 as published,
-# over Debian's dlv-list and hashbrown, as target/oracle/libordered_multimap.rlib. Nothing is written outside target/ and
-# oracle/debs/, which keeps what was fetched, since the gate empties target/. ORACLE_SOURCE names the source file where it does
-# not stand beside the work tree.
+# over Debian's dlv-list and hashbrown, as target/oracle/libordered_multimap.rlib. Nothing is written outside target/.
+# ORACLE_SOURCE names the source file where it does not stand beside the work tree. The file may end with an attribute of
+# something that is not in it, or without.
 set -eu
 
 root=$(cd "$(dirname "$0")/.." && pwd)
 out=$root/target/oracle
 debs=$root/oracle/debs
 source=${ORACLE_SOURCE:-$root/../shared/docs/src/src/list_ordered_multimap.rs}
-source_sha256=fb04d3f53b6cffd4cbcd8133da41817c1602f93c88a3cc75d79196e0eae0269b
+# of the file up to its last brace
+source_sha256=16956dbab84f5c0683996543c31ca8f9d31fc711e8a3729bfafad5b4af1f79aa
 
 die() {
     echo "oracle/build.sh: $*" >&2
@@ -32,21 +33,31 @@ unpack() {
     dpkg -x "$deb" "$out/packages"
 }
 
+# The file up to its last brace: without the attribute after it, and without empty lines.
+up_to_last_brace() {
+    awk '{ line[NR] = $0 }
+        END {
+            last = NR
+            if (line[last] == "#[allow(unused_results)]") last--
+            while (last > 0 && line[last] == "") last--
+            for (at = 1; at <= last; at++) print line[at]
+        }' "$1"
+}
+
 library() {
     rustc -O --crate-type rlib --cap-lints allow --remap-path-prefix "$out/src=src" -L "dependency=$out" --out-dir "$out" "$@"
 }
 
-has_sha256 "$source" "$source_sha256" ||
-    die "$source is missing, or has another sha256 than $source_sha256; ORACLE_SOURCE may name the file"
+[ -f "$source" ] || die "$source is missing; ORACLE_SOURCE may name the file"
+mkdir -p "$out/debs" "$out/src"
+up_to_last_brace "$source" >"$out/src/list_ordered_multimap.rs"
+has_sha256 "$out/src/list_ordered_multimap.rs" "$source_sha256" ||
+    die "$source is not as published: up to its last brace it has another sha256 than $source_sha256"
 
-mkdir -p "$debs" "$out/src"
 rm -rf "$out/packages"
 unpack librust-dlv-list-dev 0.3.0-1 d90f69dc27770b6651692f31e9b069dfd4e81c99fcd676258a382703285e0f9d
 unpack librust-hashbrown-dev 0.12.3-1 86ca499697497d825a2e76f43648ad2d49cc65763964ff234ce32c4fc862f55f
 
-# The file ends with an attribute of something that is not in it. That line alone is left out.
-[ "$(tail -n 1 "$source")" = '#[allow(unused_results)]' ] || die "$source has another last line than the attribute to leave out"
-sed '$d' "$source" >"$out/src/list_ordered_multimap.rs"
 cat >"$out/src/lib.rs" <<'END'
 extern crate alloc;
 pub mod list_ordered_multimap;
