@@ -1,7 +1,7 @@
 #!/bin/sh
 # Runs the two programs of docs/MIGRATION.md, the crate's and the package's, and shows that they print the same; and
-# that the page has them as they are. ORACLE_SOURCE names the crate's source where it does not stand beside the work
-# tree (oracle/build.sh). Nothing is written outside target/, oracle/debs/ and bindings/rust/target/.
+# that the page has them as they are. Then calls the package's methods beside the crate's (beside.rs). ORACLE_SOURCE names the crate's source where it does not stand beside the work
+# tree (oracle/build.sh). Nothing is written outside target/ and bindings/rust/target/.
 set -eu
 
 cd "$(dirname "$0")/../.."
@@ -25,3 +25,9 @@ PRELGAMMO_STATICLIB=$PWD/$out/libprelgammo.a cargo run -q --offline --manifest-p
 cat "$out/club.package"
 diff "$out/club.crate" "$out/club.package"
 echo "both programs print the same $(wc -l <"$out/club.crate") lines"
+
+rustc --edition 2021 -O --crate-type rlib --crate-name prelgammo -L "native=$out" -l static=prelgammo --out-dir "$out" \
+    bindings/rust/src/lib.rs
+rustc --edition 2021 -O -L dependency=target/oracle --extern "prelgammo=$out/libprelgammo.rlib" \
+    --extern ordered_multimap=target/oracle/libordered_multimap.rlib -o "$out/beside" bindings/migration/beside.rs
+"$out/beside"

@@ -1,4 +1,5 @@
-use prelgammo::{Entry, ListOrderedMultimap, Refused};
+use prelgammo::list_ordered_multimap::{Entry, ListOrderedMultimap};
+use prelgammo::Refused;
 
 fn main() -> Result<(), Refused> {
     let mut rounds = ListOrderedMultimap::new();

@@ -1,4 +1,4 @@
-use crate::{ListOrderedMultimap, Refused};
+use crate::{EntryValues, EntryValuesDrain, ListOrderedMultimap, Refused};
 use std::fmt;
 
 /// A key's place in the map, from [`ListOrderedMultimap::entry`].
@@ -23,6 +23,8 @@ pub enum Entry<'map> {
     /// The key is not in the map.
     Vacant(VacantEntry<'map>),
 }
+
+const OCCUPIED: &str = "an occupied entry has a value";
 
 /// A key that has values.
 pub struct OccupiedEntry<'map> {
@@ -49,6 +51,21 @@ impl OccupiedEntry<'_> {
         Ok(())
     }
 
+    /// The first of the key's values.
+    ///
+    /// ```
+    /// use prelgammo::{Entry, ListOrderedMultimap};
+    ///
+    /// let mut map = ListOrderedMultimap::from_pairs(&[(7, 10), (7, 11)])?;
+    /// let Entry::Occupied(entry) = map.entry(7) else { unreachable!() };
+    /// assert_eq!(entry.get(), 10);
+    /// # Ok::<(), prelgammo::Refused>(())
+    /// ```
+    #[must_use]
+    pub fn get(&self) -> u64 {
+        self.map.get(&self.key).expect(OCCUPIED)
+    }
+
     /// Replaces all values of the key by one, which goes to the back of the map, and gives the first of the old ones.
     ///
     /// ```
@@ -63,8 +80,38 @@ impl OccupiedEntry<'_> {
     /// # Ok::<(), prelgammo::Refused>(())
     /// ```
     pub fn insert(&mut self, value: u64) -> u64 {
-        let first = self.map.map.occupied_insert(self.key, value).round();
-        first.expect("an occupied entry has a value")
+        self.map.map.occupied_insert(self.key, value).round().expect(OCCUPIED)
+    }
+
+    /// As [`insert`](OccupiedEntry::insert), but gives all of the old values.
+    ///
+    /// ```
+    /// use prelgammo::{Entry, ListOrderedMultimap};
+    ///
+    /// let mut map = ListOrderedMultimap::from_pairs(&[(7, 10), (9, 20), (7, 11)])?;
+    /// let Entry::Occupied(mut entry) = map.entry(7) else { unreachable!() };
+    /// assert!(entry.insert_all(12).eq([10, 11]));
+    /// assert!(map.iter().eq([(9, 20), (7, 12)]));
+    /// assert!(map.keys().eq([7, 9]));
+    /// # Ok::<(), prelgammo::Refused>(())
+    /// ```
+    pub fn insert_all(&mut self, value: u64) -> EntryValuesDrain {
+        self.map.insert_all(self.key, value).expect("a key's own values make room")
+    }
+
+    /// The key's values, in order.
+    ///
+    /// ```
+    /// use prelgammo::{Entry, ListOrderedMultimap};
+    ///
+    /// let mut map = ListOrderedMultimap::from_pairs(&[(7, 10), (9, 20), (7, 11)])?;
+    /// let Entry::Occupied(entry) = map.entry(7) else { unreachable!() };
+    /// assert!(entry.iter().eq([10, 11]));
+    /// # Ok::<(), prelgammo::Refused>(())
+    /// ```
+    #[must_use]
+    pub fn iter(&self) -> EntryValues {
+        self.map.get_all(&self.key)
     }
 
     /// The key.
@@ -100,6 +147,36 @@ impl OccupiedEntry<'_> {
         self.map.entry_len(&self.key)
     }
 
+    /// Takes the key and all its values out, and gives the first of them.
+    ///
+    /// ```
+    /// use prelgammo::{Entry, ListOrderedMultimap};
+    ///
+    /// let mut map = ListOrderedMultimap::from_pairs(&[(7, 10), (9, 20), (7, 11)])?;
+    /// let Entry::Occupied(entry) = map.entry(7) else { unreachable!() };
+    /// assert_eq!(entry.remove(), 10);
+    /// assert!(map.iter().eq([(9, 20)]));
+    /// # Ok::<(), prelgammo::Refused>(())
+    /// ```
+    pub fn remove(self) -> u64 {
+        self.remove_entry().1
+    }
+
+    /// Takes the key and all its values out, and gives the values.
+    ///
+    /// ```
+    /// use prelgammo::{Entry, ListOrderedMultimap};
+    ///
+    /// let mut map = ListOrderedMultimap::from_pairs(&[(7, 10), (9, 20), (7, 11)])?;
+    /// let Entry::Occupied(entry) = map.entry(7) else { unreachable!() };
+    /// assert!(entry.remove_all().eq([10, 11]));
+    /// assert!(map.iter().eq([(9, 20)]));
+    /// # Ok::<(), prelgammo::Refused>(())
+    /// ```
+    pub fn remove_all(self) -> EntryValuesDrain {
+        self.map.remove_all(&self.key)
+    }
+
     /// Takes the key and all its values out, and gives the key and the first value.
     ///
     /// ```
@@ -115,7 +192,23 @@ impl OccupiedEntry<'_> {
     /// ```
     pub fn remove_entry(self) -> (u64, u64) {
         let first = self.map.map.occupied_remove_entry(self.key).round();
-        (self.key, first.expect("an occupied entry has a value"))
+        (self.key, first.expect(OCCUPIED))
+    }
+
+    /// Takes the key and all its values out, and gives them.
+    ///
+    /// ```
+    /// use prelgammo::{Entry, ListOrderedMultimap};
+    ///
+    /// let mut map = ListOrderedMultimap::from_pairs(&[(7, 10), (9, 20), (7, 11)])?;
+    /// let Entry::Occupied(entry) = map.entry(7) else { unreachable!() };
+    /// let (key, values) = entry.remove_entry_all();
+    /// assert_eq!(key, 7);
+    /// assert!(values.eq([10, 11]));
+    /// # Ok::<(), prelgammo::Refused>(())
+    /// ```
+    pub fn remove_entry_all(self) -> (u64, EntryValuesDrain) {
+        (self.key, self.map.remove_all(&self.key))
     }
 }
 
@@ -132,7 +225,7 @@ pub struct VacantEntry<'map> {
     pub(crate) key: u64,
 }
 
-impl VacantEntry<'_> {
+impl<'map> VacantEntry<'map> {
     /// Adds the key with one value at the back. Refused by 1 and 2.
     ///
     /// ```
@@ -145,9 +238,25 @@ impl VacantEntry<'_> {
     /// # Ok::<(), prelgammo::Refused>(())
     /// ```
     pub fn insert(self, value: u64) -> Result<(), Refused> {
-        let answer = self.map.map.vacant_insert(self.key, value).accepted()?;
-        answer.done();
-        Ok(())
+        self.insert_entry(value).map(|_| ())
+    }
+
+    /// As [`insert`](VacantEntry::insert), and gives the entry that is now occupied.
+    ///
+    /// ```
+    /// use prelgammo::{Entry, ListOrderedMultimap};
+    ///
+    /// let mut map = ListOrderedMultimap::new();
+    /// let Entry::Vacant(entry) = map.entry(7) else { unreachable!() };
+    /// let mut entry = entry.insert_entry(10)?;
+    /// assert_eq!(entry.get(), 10);
+    /// entry.append(11)?;
+    /// assert!(map.get_all(&7).eq([10, 11]));
+    /// # Ok::<(), prelgammo::Refused>(())
+    /// ```
+    pub fn insert_entry(self, value: u64) -> Result<OccupiedEntry<'map>, Refused> {
+        self.map.map.vacant_insert(self.key, value).accepted()?.done();
+        Ok(OccupiedEntry { map: self.map, key: self.key })
     }
 
     /// The key, with which the entry is left.

@@ -3,8 +3,10 @@
 //!
 //! [`ListOrderedMultimap`] has the names and shapes of `ListOrderedMultimap<u64, u64>` of the crate ordered-multimap
 //! 0.7.3. Its calls are done by a library in Rattle that is proved to do what the scope document ("document 01")
-//! says, on every input; what this package adds is the way to it, and the walk along the record that shows each pair to
-//! the function of [`ListOrderedMultimap::retain`]. `docs/MIGRATION.md` has a program before and after the move.
+//! says, on every input. What this package adds is the way to it; the crate's methods that document 01 does not name,
+//! each made of its calls; and, of its own reading, the walk along the record that shows each pair to the function of
+//! [`ListOrderedMultimap::retain`], and [`front`](ListOrderedMultimap::front) and [`back`](ListOrderedMultimap::back).
+//! `docs/MIGRATION.md` has a program before and after the move.
 //!
 //! ```
 //! use prelgammo::ListOrderedMultimap;
@@ -25,19 +27,30 @@
 //! A map holds at most [`MEMBERS`] keys and [`ROUNDS`] values. A call that cannot be done gives [`Refused`] with a
 //! number of document 01, and leaves the map as it was. A method that is never refused here gives its answer plainly.
 //!
+//! The crate's calls are never refused, so that its programs often make them as statements. Of those the compiler only
+//! warns, unless the program denies it:
+//!
+//! ```compile_fail
+//! #![deny(unused_must_use)]
+//!
+//! let mut map = prelgammo::ListOrderedMultimap::new();
+//! map.append(7, 10);
+//! ```
+//!
 //! # Iterators
 //!
 //! The crate's iterators borrow the map. Here the library writes the values to a vector in one call, and the iterators
-//! ([`EntryValues`], [`EntryValuesDrain`], [`Keys`], [`Iter`]) own it. They give numbers where the crate's give
-//! references, are double-ended and know their length, as the crate's do. What [`ListOrderedMultimap::insert_all`] and
-//! [`ListOrderedMultimap::remove_all`] took out is out when they return, whether their iterator is used or not.
+//! ([`EntryValues`], [`EntryValuesDrain`], [`Keys`], [`Values`], [`KeyValues`], [`Iter`], [`IntoIter`]) own it. They give
+//! numbers where the crate's give references, are double-ended and know their length, as the crate's do. What
+//! [`ListOrderedMultimap::insert_all`] and [`ListOrderedMultimap::remove_all`] took out is out when they return, whether
+//! their iterator is used or not.
 //!
 //! # Cost
 //!
 //! The map is one record of 24,096 bytes in a box. The library is lent its arrays and changes them where they stand: no
-//! call copies the map, and none allocates, save for the vectors that iterators own. Most calls take less time than the
-//! crate's (`docs/BENCHMARKS.md`). [`ListOrderedMultimap::new`] takes more, since it writes the whole record; that then
-//! never grows.
+//! call but [`ListOrderedMultimap::try_extend`] copies the map, and none allocates, save for the vectors that iterators
+//! own. Most calls take less time than the crate's (`docs/BENCHMARKS.md`). [`ListOrderedMultimap::new`] takes more, since
+//! it writes the whole record; that then never grows.
 //!
 //! # Threads
 //!
@@ -52,9 +65,7 @@
 #![deny(missing_docs)]
 
 mod answer;
-#[cfg(test)]
-mod bounds;
-mod declarations;
+mod derived;
 mod entry;
 mod error;
 mod ffi;
@@ -66,7 +77,22 @@ pub use entry::{Entry, OccupiedEntry, VacantEntry};
 pub use error::Refused;
 pub use ffi::Record;
 pub use key::KeyWrapper;
-pub use map::{EntryValues, EntryValuesDrain, Iter, Keys, ListOrderedMultimap};
+pub use map::{EntryValues, EntryValuesDrain, IntoIter, Iter, KeyValues, Keys, ListOrderedMultimap, Values};
+
+/// The types under the path that they have in the crate, so that a `use` line changes in its first word only.
+///
+/// ```
+/// use prelgammo::list_ordered_multimap::{Entry, ListOrderedMultimap};
+///
+/// let mut map = ListOrderedMultimap::new();
+/// assert!(matches!(map.entry(7), Entry::Vacant(_)));
+/// ```
+pub mod list_ordered_multimap {
+    #[doc(no_inline)]
+    pub use crate::{Entry, KeyWrapper, ListOrderedMultimap, OccupiedEntry, VacantEntry};
+    #[doc(no_inline)]
+    pub use crate::{EntryValues, EntryValuesDrain, IntoIter, Iter, KeyValues, Keys, Values};
+}
 
 /// The most keys that a map holds.
 pub const MEMBERS: usize = 256;

@@ -11,8 +11,17 @@ pub type EntryValuesDrain = vec::IntoIter<u64>;
 /// The keys, in the order in which they joined the map.
 pub type Keys = vec::IntoIter<u64>;
 
+/// All values, in the order in which they were added.
+pub type Values = vec::IntoIter<u64>;
+
+/// Each key with its values, in the order in which the keys joined the map.
+pub type KeyValues = vec::IntoIter<(u64, EntryValues)>;
+
 /// All pairs, in the order in which they were added.
 pub type Iter = iter::Zip<vec::IntoIter<u64>, vec::IntoIter<u64>>;
+
+/// All pairs of a map that is no more, in the order in which they were added.
+pub type IntoIter = Iter;
 
 /// A map from a key to a list of values that keeps the order over all keys.
 #[derive(Clone)]
@@ -400,9 +409,7 @@ impl ListOrderedMultimap {
     /// ```
     pub fn from_pairs(pairs: &[(u64, u64)]) -> Result<ListOrderedMultimap, Refused> {
         let mut map = ListOrderedMultimap::new();
-        for &(key, value) in pairs {
-            map.append(key, value)?;
-        }
+        map.append_each(pairs.iter().copied())?;
         Ok(map)
     }
 
@@ -462,6 +469,22 @@ impl PartialEq for ListOrderedMultimap {
 }
 
 impl Eq for ListOrderedMultimap {}
+
+/// ```
+/// use prelgammo::ListOrderedMultimap;
+///
+/// let map = ListOrderedMultimap::from_pairs(&[(7, 10), (9, 20), (7, 11)])?;
+/// assert!(map.into_iter().eq([(7, 10), (9, 20), (7, 11)]));
+/// # Ok::<(), prelgammo::Refused>(())
+/// ```
+impl IntoIterator for ListOrderedMultimap {
+    type Item = (u64, u64);
+    type IntoIter = IntoIter;
+
+    fn into_iter(self) -> IntoIter {
+        self.iter()
+    }
+}
 
 impl IntoIterator for &ListOrderedMultimap {
     type Item = (u64, u64);

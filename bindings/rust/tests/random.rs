@@ -3,7 +3,7 @@
 mod common;
 
 use common::{same, same_lists, same_record, Model, Random};
-use prelgammo::{Entry, ListOrderedMultimap};
+use prelgammo::{Entry, ListOrderedMultimap, OccupiedEntry};
 
 // Keys that come up often, so that records grow, and how often a call adds.
 struct Mix {
@@ -18,7 +18,7 @@ fn mixes(random: &mut Random) -> Vec<Mix> {
         Mix { keys: (0..3).collect(), adding: 5, calls: 2000 },
         Mix { keys: (0..40).collect(), adding: 12, calls: 2000 },
         Mix { keys: vec![0, u64::MAX, 512, 1 << 63], adding: 8, calls: 1000 },
-        Mix { keys: spread, adding: 60, calls: 3000 },
+        Mix { keys: spread, adding: 200, calls: 3000 },
         Mix { keys: (0..200).collect(), adding: 1500, calls: 4000 },
     ]
 }
@@ -41,23 +41,57 @@ fn call(map: &mut ListOrderedMultimap, model: &mut Model, key: u64, value: u64, 
             let (members, rounds) = (random.below(300), random.below(1100));
             assert_eq!(map.pack_to(members, rounds), model.pack_to(members, rounds));
         }
-        8 => entry_call(map, model, key, value, random.below(3)),
+        8 => entry_call(map, model, key, value, random.below(7)),
         9 if random.below(20) == 0 => {
             map.clear();
             model.clear();
+        }
+        10 => assert_eq!(map.remove_entry(&key), model.remove_all(key).first().map(|&first| (key, first))),
+        11 => {
+            let (found, due) = (map.remove_entry_all(&key), model.remove_all(key));
+            assert_eq!(found.map(|(key, values)| (key, values.collect())), (!due.is_empty()).then_some((key, due)));
+        }
+        12 => map.pack_to_fit(),
+        13 => {
+            let pairs: Vec<_> = (0..random.below(30) as u64).map(|at| (key.wrapping_add(at % 4), value + at)).collect();
+            assert_eq!(map.try_extend(pairs.iter().copied()), model.try_extend(&pairs));
         }
         _ => assert_eq!(map.append(key, value), model.append(key, value)),
     }
 }
 
 fn entry_call(map: &mut ListOrderedMultimap, model: &mut Model, key: u64, value: u64, which: usize) {
-    match (map.entry(key), which) {
-        (Entry::Occupied(mut entry), 0) => assert_eq!(entry.append(value), model.append(key, value).map(|_| ())),
-        (Entry::Occupied(mut entry), 1) => assert_eq!(entry.insert(value), model.insert_all(key, value).unwrap()[0]),
-        (Entry::Occupied(entry), _) => assert_eq!(entry.remove_entry(), (key, model.remove_all(key)[0])),
-        (Entry::Vacant(entry), _) => {
+    match map.entry(key) {
+        Entry::Occupied(entry) => occupied_call(entry, model, key, value, which),
+        Entry::Vacant(entry) => {
             assert!(!model.contains_key(key));
-            assert_eq!(entry.insert(value), model.append(key, value).map(|_| ()));
+            let due = model.append(key, value).map(|_| vec![value]);
+            match which % 2 {
+                0 => assert_eq!(entry.insert(value), due.map(|_| ())),
+                _ => assert_eq!(entry.insert_entry(value).map(|entry| entry.iter().collect()), due),
+            }
+        }
+    }
+}
+
+fn occupied_call(mut entry: OccupiedEntry, model: &mut Model, key: u64, value: u64, which: usize) {
+    let record = model.get_all(key);
+    assert_eq!((entry.get(), entry.len()), (record[0], record.len()));
+    assert!(entry.iter().eq(record.iter().copied()));
+    match which {
+        0 => return assert_eq!(entry.append(value), model.append(key, value).map(|_| ())),
+        1 | 2 => drop(model.insert_all(key, value).unwrap()),
+        _ => drop(model.remove_all(key)),
+    }
+    match which {
+        1 => assert_eq!(entry.insert(value), record[0]),
+        2 => assert!(entry.insert_all(value).eq(record)),
+        3 => assert_eq!(entry.remove(), record[0]),
+        4 => assert!(entry.remove_all().eq(record)),
+        5 => assert_eq!(entry.remove_entry(), (key, record[0])),
+        _ => {
+            let (given, values) = entry.remove_entry_all();
+            assert_eq!((given, values.collect()), (key, record));
         }
     }
 }
@@ -67,7 +101,7 @@ fn run(mix: &Mix, random: &mut Random) -> (usize, usize) {
     let (mut most_members, mut most_rounds) = (0, 0);
     for at in 0..mix.calls {
         let key = mix.keys[random.below(mix.keys.len())];
-        let which = random.below(10 + mix.adding);
+        let which = random.below(14 + mix.adding);
         call(&mut map, &mut model, key, at as u64, which, random);
         same_lists(&map, &model);
         same_record(&map, &model, key);

@@ -116,6 +116,15 @@ impl Model {
         Ok(())
     }
 
+    pub fn try_extend(&mut self, pairs: &[(u64, u64)]) -> Result<(), Refused> {
+        let mut longer = self.clone();
+        for &(key, value) in pairs {
+            longer.append(key, value)?;
+        }
+        *self = longer;
+        Ok(())
+    }
+
     pub fn clear(&mut self) {
         self.pairs.clear();
         self.members.clear();
@@ -130,6 +139,8 @@ pub fn same_lists(map: &ListOrderedMultimap, model: &Model) {
     assert_eq!((map.values_len(), map.keys_len()), (model.pairs.len(), model.members.len()));
     assert_eq!((map.iter().len(), map.keys().len()), (model.pairs.len(), model.members.len()));
     assert_eq!(map.taken(), model.taken);
+    assert_eq!((map.front(), map.back()), (model.pairs.first().copied(), model.pairs.last().copied()));
+    assert_eq!(map.is_empty(), model.pairs.is_empty());
 }
 
 pub fn same_record(map: &ListOrderedMultimap, model: &Model, key: u64) {
@@ -146,4 +157,10 @@ pub fn same(map: &ListOrderedMultimap, model: &Model) {
     for &key in &model.members {
         same_record(map, model, key);
     }
+    assert!(map.values().eq(model.pairs.iter().map(|pair| pair.1)));
+    assert!(map.values().rev().eq(model.pairs.iter().rev().map(|pair| pair.1)));
+    let pairs = || map.pairs().map(|(key, values)| (key, values.collect::<Vec<_>>()));
+    assert!(pairs().eq(model.members.iter().map(|&key| (key, model.get_all(key)))));
+    assert!(pairs().rev().eq(model.members.iter().rev().map(|&key| (key, model.get_all(key)))));
+    assert!(map.clone().into_iter().eq(model.pairs.iter().copied()));
 }
