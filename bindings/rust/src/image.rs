@@ -3,13 +3,16 @@
 
 use crate::ffi::Map;
 use crate::{ListOrderedMultimap, Refused, ROUNDS};
-use std::fs::{self, File, OpenOptions};
+use std::fs::{self, File, OpenOptions, Permissions};
 use std::io::{self, Read, Write};
 use std::path::{Path, PathBuf};
 use std::sync::atomic::{AtomicU64, Ordering};
 
 // The bytes of the largest image.
 const MOST_BYTES: usize = 8 + 16 * ROUNDS;
+
+// The symbolic links that are followed in a row, as many as Linux follows.
+const MOST_LINKS: usize = 40;
 
 impl ListOrderedMultimap {
     /// The image of the map: its pairs in order. What else there is of a map is not in it, namely the order of the
@@ -49,7 +52,16 @@ impl ListOrderedMultimap {
         Ok(ListOrderedMultimap { map })
     }
 
-    /// Writes the image to a file, whole or not at all: to a new file beside it first, which then takes its name.
+    /// Writes the image to a file, whole or not at all: to a new file beside it first, which then takes its name. A
+    /// symbolic link is followed, and stays. A file that is there keeps its mode, though not its owner, and one that
+    /// may only be read is replaced too; what is no plain file is refused.
+    ///
+    /// A process that is ended while it saves may leave the new file behind, which has the name of the file with
+    /// `.PROCESS.COUNT.new` after it. No save uses it again, and it can be deleted.
+    ///
+    /// An error says that the old file is as it was, but for one: the last step is to sync the folder, so that the name
+    /// outlasts a power failure. If that fails, the file has the new image already, and after a power failure it has the
+    /// new one or the old one, whole. To save again is safe.
     ///
     /// ```
     /// use prelgammo::ListOrderedMultimap;
@@ -62,10 +74,11 @@ impl ListOrderedMultimap {
     /// # Ok::<(), std::io::Error>(())
     /// ```
     pub fn save(&self, path: impl AsRef<Path>) -> io::Result<()> {
-        let path = path.as_ref();
-        let folder = File::open(folder(path))?;
-        let (beside, file) = create_beside(path)?;
-        let saved = fill(file, &self.to_bytes()).and_then(|()| fs::rename(&beside, path));
+        let path = end_of_links(path.as_ref())?;
+        let mode = mode_of(&path)?;
+        let folder = File::open(folder(&path))?;
+        let (beside, file) = create_beside(&path)?;
+        let saved = fill(file, mode, &self.to_bytes()).and_then(|()| fs::rename(&beside, &path));
         if saved.is_err() {
             // what went wrong first is told
             let _ = fs::remove_file(&beside);
@@ -96,6 +109,29 @@ impl ListOrderedMultimap {
     }
 }
 
+// The file that a path leads to along symbolic links, which need not be there.
+fn end_of_links(path: &Path) -> io::Result<PathBuf> {
+    let mut path = path.to_path_buf();
+    for _ in 0..MOST_LINKS {
+        if !fs::symlink_metadata(&path).is_ok_and(|found| found.is_symlink()) {
+            return Ok(path);
+        }
+        // a link that does not begin at the root is read from its own folder
+        path = folder(&path).join(fs::read_link(&path)?);
+    }
+    Err(io::Error::other("the path leads along too many symbolic links"))
+}
+
+// The mode of a plain file, where there is one.
+fn mode_of(path: &Path) -> io::Result<Option<Permissions>> {
+    match fs::metadata(path) {
+        Ok(found) if found.is_file() => Ok(Some(found.permissions())),
+        Ok(_) => Err(io::Error::new(io::ErrorKind::InvalidInput, "what has this name is no plain file")),
+        Err(error) if error.kind() == io::ErrorKind::NotFound => Ok(None),
+        Err(error) => Err(error),
+    }
+}
+
 fn folder(path: &Path) -> &Path {
     match path.parent() {
         Some(folder) if folder != Path::new("") => folder,
@@ -120,7 +156,11 @@ fn create_beside(path: &Path) -> io::Result<(PathBuf, File)> {
     }
 }
 
-fn fill(mut file: File, bytes: &[u8]) -> io::Result<()> {
+// Sets the mode first, so that no one reads what he may not.
+fn fill(mut file: File, mode: Option<Permissions>, bytes: &[u8]) -> io::Result<()> {
+    if let Some(mode) = mode {
+        file.set_permissions(mode)?;
+    }
     file.write_all(bytes)?;
     file.sync_all()
 }

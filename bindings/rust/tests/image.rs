@@ -159,6 +159,82 @@ fn a_save_that_fails_leaves_nothing() {
     assert_eq!(folder.names(), ["taken"]);
 }
 
+// Left by a process that was ended while it saved, and of the same number: its files are stepped over.
+#[test]
+fn left_over_files_are_left_alone() {
+    let folder = Folder::new("left");
+    let left: Vec<String> = (0..200).map(|count| format!("rounds.{}.{count}.new", std::process::id())).collect();
+    for name in &left {
+        fs::write(folder.0.join(name), "left").unwrap();
+    }
+    let map = ListOrderedMultimap::from_pairs(&[(7, 10)]).unwrap();
+    map.save(folder.0.join("rounds")).unwrap();
+    assert_eq!(ListOrderedMultimap::load(folder.0.join("rounds")).unwrap(), map);
+    assert!(left.iter().all(|name| fs::read(folder.0.join(name)).unwrap() == b"left"));
+    assert_eq!(folder.names().len(), 201);
+}
+
+#[cfg(unix)]
+mod unix {
+    use super::*;
+    use std::os::unix::fs::{symlink, PermissionsExt};
+    use std::os::unix::net::UnixListener;
+
+    fn a_map() -> ListOrderedMultimap {
+        ListOrderedMultimap::from_pairs(&[(7, 10), (9, 20)]).unwrap()
+    }
+
+    #[test]
+    fn a_file_keeps_its_mode() {
+        let folder = Folder::new("mode");
+        for mode in [0o600, 0o640, 0o444, 0o666] {
+            let path = folder.0.join(format!("rounds-{mode:o}"));
+            fs::write(&path, "old").unwrap();
+            fs::set_permissions(&path, fs::Permissions::from_mode(mode)).unwrap();
+            a_map().save(&path).unwrap();
+            assert_eq!(fs::metadata(&path).unwrap().permissions().mode() & 0o7777, mode);
+            assert_eq!(ListOrderedMultimap::load(&path).unwrap(), a_map());
+        }
+    }
+
+    // A link to a link in another folder, by a path from there.
+    #[test]
+    fn a_symbolic_link_is_followed_and_stays() {
+        let folder = Folder::new("link");
+        let [path, near, far] = ["rounds", "near", "there/far"].map(|name| folder.0.join(name));
+        fs::create_dir(folder.0.join("there")).unwrap();
+        symlink("../rounds", &far).unwrap();
+        symlink("there/far", &near).unwrap();
+        // once where the file is not there yet, and once where it is
+        for map in [a_map(), ListOrderedMultimap::new()] {
+            map.save(&near).unwrap();
+            assert_eq!(ListOrderedMultimap::load(&path).unwrap(), map);
+        }
+        assert_eq!(fs::read_link(&near).unwrap().to_str(), Some("there/far"));
+        assert_eq!(fs::read_link(&far).unwrap().to_str(), Some("../rounds"));
+        assert_eq!((folder.names().len(), fs::read_dir(folder.0.join("there")).unwrap().count()), (3, 1));
+    }
+
+    #[test]
+    fn links_in_a_ring_lead_nowhere() {
+        let folder = Folder::new("ring");
+        symlink("one", folder.0.join("other")).unwrap();
+        symlink("other", folder.0.join("one")).unwrap();
+        assert!(a_map().save(folder.0.join("one")).is_err());
+        assert_eq!(folder.names().len(), 2);
+    }
+
+    #[test]
+    fn what_is_no_plain_file_is_left_alone() {
+        let folder = Folder::new("socket");
+        let path = folder.0.join("socket");
+        let _socket = UnixListener::bind(&path).unwrap();
+        assert_eq!(a_map().save(&path).unwrap_err().kind(), io::ErrorKind::InvalidInput);
+        assert!(!fs::metadata(&path).unwrap().is_file());
+        assert_eq!(folder.names(), ["socket"]);
+    }
+}
+
 #[test]
 fn many_threads_save_to_one_file() {
     let folder = Folder::new("threads");
