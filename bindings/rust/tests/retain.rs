@@ -49,7 +49,7 @@ fn the_function_sees_each_pair_once_in_order() {
     let mut seen = Vec::new();
     map.retain(|&key, &value| {
         seen.push((key, value));
-        seen.len().is_multiple_of(2)
+        seen.len() % 2 == 0
     });
     assert_eq!(seen, pairs);
     assert!(map.iter().eq([(9, 20), (7, 12)]));
