@@ -4,12 +4,15 @@
 # written to the repository outside target/ and oracle/debs/, save by the arguments bench and sample.
 #
 #   oracle/run.sh [quick|full] [SEED]    the driver's own tests, the confirmed differences, the mixes of EntryValues, the
-#                                        stored sample, damaged records and images; then lists of calls (quick without an argument)
+#                                        stored sample and damaged records; then lists of calls, and images (quick without
+#                                        an argument)
 #   oracle/run.sh calls [SEED]           the calls program beside the same lines over the crate
 #   oracle/run.sh bench                  the time of each call, with a chart to docs/benchmarks.svg; then of the calls program
 #   oracle/run.sh sample                 write the sample of the crate's answers anew: crates/crate_answers/stdin and stdout
 #
 # ORACLE_SOURCE names list_ordered_multimap.rs where it does not stand beside the work tree (oracle/build.sh).
+# ORACLE_WITHOUT_PORT=1 leaves the port out, so that rt is not needed: then document 01's steps are compared with the crate
+# alone, and there are no damaged records, images and times.
 set -eu
 
 root=$(cd "$(dirname "$0")/.." && pwd)
@@ -29,8 +32,16 @@ fi
 
 oracle/build.sh
 
-bindings/library.sh
-rustc --edition 2021 -O --crate-name driver -L dependency=target/oracle -L native=target/bindings -l static=prelgammo \
+if [ -z "${ORACLE_WITHOUT_PORT:-}" ]; then
+    unset ORACLE_WITHOUT_PORT
+    bindings/library.sh
+    port="-L native=target/bindings -l static=prelgammo"
+else
+    port="--cfg without_port"
+fi
+# the words of $port are arguments
+# shellcheck disable=SC2086
+rustc --edition 2021 -O --crate-name driver -L dependency=target/oracle $port \
     --extern ordered_multimap=target/oracle/libordered_multimap.rlib -o target/oracle/driver oracle/driver/main.rs
 
 [ $# -gt 0 ] || set -- quick
@@ -40,8 +51,7 @@ quick | full)
     target/oracle/driver faults
     target/oracle/driver mixes
     target/oracle/driver sample
-    target/oracle/driver damage
-    target/oracle/driver images
+    [ -n "${ORACLE_WITHOUT_PORT:-}" ] || target/oracle/driver damage
     target/oracle/driver "$@"
     ;;
 calls)

@@ -2,6 +2,7 @@
 // them plain copies of a record as large as the port's. Prints a table in Markdown, and writes a chart.
 
 use crate::bench_cases::{cases, Aim, Case};
+use crate::calls::grouped;
 use crate::chart;
 use crate::clock::{deep, hold, keep_memory, median, time_copies, time_copy, timed};
 use crate::crate_map::CrateMap;
@@ -122,13 +123,6 @@ pub fn shown(number: Option<f64>, digits: usize) -> String {
         Some(number) => format!("{:.*}", if number >= 20.0 { 0 } else { digits }, number),
         None => "-".to_string(),
     }
-}
-
-// A number with a comma between thousands.
-pub fn grouped(number: usize) -> String {
-    let digits = number.to_string();
-    let parts: Vec<&str> = digits.as_bytes().rchunks(3).rev().map(|part| std::str::from_utf8(part).unwrap()).collect();
-    parts.join(",")
 }
 
 // A map whose calls are timed. On each side a call is chosen by the same `match`, behind a function that is not put into its

@@ -1,6 +1,5 @@
 // The calls program beside the same lines over the crate: their answers byte for byte, and the time of both.
 
-use crate::bench::grouped;
 use crate::line_loads::{Load, LOADS};
 use std::fs::{self, File};
 use std::io::{self, Read};
@@ -58,6 +57,13 @@ fn print_row(load: &Load, files: [&PathBuf; 2], [ours, theirs]: [f64; 2], alike:
     print!("| {} lines: {} | {:.1} MB | {:.1} MB ", lines, load.what, mega(files[0])?, mega(files[1])?);
     println!("| {:.2} s | {:.2} s | {:.1} | {} |", ours, theirs, ratio, answers);
     Ok(())
+}
+
+// A number with a comma between thousands.
+pub fn grouped(number: usize) -> String {
+    let digits = number.to_string();
+    let parts: Vec<&str> = digits.as_bytes().rchunks(3).rev().map(|part| std::str::from_utf8(part).unwrap()).collect();
+    parts.join(",")
 }
 
 fn file(load: &Load, end: &str) -> PathBuf {

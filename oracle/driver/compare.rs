@@ -1,9 +1,19 @@
 // Runs lists of calls on the model, the crate and the port, and compares them after every call.
 
 use crate::crate_map::{strikes_neighbours, CrateMap};
-use crate::model::{Accounts, Answer, Call, Model, Op, OPS};
-use crate::port::{untouched, ModelPort, Port, Tape};
-use std::panic::{catch_unwind, AssertUnwindSafe};
+use crate::model::{Accounts, Answer, Call, Model, Op, RefusedBy, OPS};
+use crate::port::{is_refusal, untouched, ModelPort, Port, Tape};
+use crate::stops::{outcome_of, while_running};
+use std::fmt;
+
+// A list to print, a call on each line.
+pub struct Listed<'list>(pub &'list [Call]);
+
+impl fmt::Display for Listed<'_> {
+    fn fmt(&self, f: &mut fmt::Formatter) -> fmt::Result {
+        self.0.iter().try_for_each(|call| writeln!(f, "  {}", call))
+    }
+}
 
 pub struct Difference {
     // the calls up to the one after which it was seen
@@ -17,8 +27,7 @@ pub struct Tally {
     pub made: [u64; OPS.len()],
     pub refused: [u64; OPS.len()],
     pub on_crate: [u64; OPS.len()],
-    // by the refusals' numbers
-    pub refused_by: [u64; 11],
+    pub refused_by: RefusedBy,
     // retains given to the crate in several passes
     pub split_retains: u64,
     // the most rounds and members held
@@ -31,14 +40,20 @@ pub struct Tally {
 }
 
 impl Tally {
-    fn count(&mut self, number: usize, answer: Answer, model: &Model) {
-        self.made[number] += 1;
+    pub fn count(&mut self, op: Op, answer: Answer, model: &Model) -> Result<(), String> {
+        self.made[op as usize] += 1;
         if let Answer::Refused(by) = answer {
-            self.refused[number] += 1;
+            if !is_refusal(by) {
+                return Err(format!("the steps refuse by {}, which is no number of document 01", by));
+            }
+            self.refused[op as usize] += 1;
             self.refused_by[by as usize] += 1;
+        } else if op != Op::Taken {
+            self.on_crate[op as usize] += 1;
         }
         self.most_rounds = self.most_rounds.max(model.pairs.len());
         self.most_members = self.most_members.max(model.members.len());
+        Ok(())
     }
 
     pub fn calls(&self) -> u64 {
@@ -79,58 +94,29 @@ impl Session {
 
     // Makes one call more of a list, and compares answer, slices and state.
     pub fn call(&mut self, run: &mut Run, call: Call) -> Result<(), Difference> {
-        let number = call.op as usize;
-        let (mut out, mut out2) = (untouched(call.out), untouched(call.out2));
-        let record = run.model.record(call.k).len() as u64;
-        let held = run.model.pairs.len() as u64;
-        let answer = run.model.step(&call, &mut out, &mut out2);
-        let refused = matches!(answer, Answer::Refused(_));
-        self.tally.count(number, answer, &run.model);
-        run.accounts.count(&call, answer, record, held);
         run.list.push(call);
-        if !run.accounts.balanced(&run.model) {
-            return Err(run.difference(format!("the accounts {:?} do not balance", run.accounts)));
-        }
-        if !refused {
-            self.tally.on_crate[number] += (number != Op::Taken as usize) as u64;
-            self.call_crate(run, answer, &out, &out2)?;
-        }
-        let named = run.list[run.list.len() - 1].k;
-        let seen = catch_unwind(AssertUnwindSafe(|| run.crate_map.difference(&run.model, named)));
-        match seen {
-            Ok(None) => Ok(()),
-            Ok(Some(what)) => Err(run.difference(format!("in the crate, {}", what))),
-            Err(_) => Err(run.difference("the crate stops in a read".to_string())),
-        }
-    }
-
-    fn call_crate(&mut self, run: &mut Run, answer: Answer, out: &[u64], out2: &[u64]) -> Result<(), Difference> {
-        let call = &run.list[run.list.len() - 1];
-        if call.op == Op::Retain {
-            let members: Vec<u64> = run.crate_map.map.iter().map(|pair| *pair.0).collect();
-            self.tally.split_retains += strikes_neighbours(&members, &call.marks) as u64;
-        }
-        let (mut crate_out, mut crate_out2) = (untouched(call.out), untouched(call.out2));
-        let map = &mut run.crate_map;
-        let found = catch_unwind(AssertUnwindSafe(|| map.call(call, &mut crate_out, &mut crate_out2)));
-        let what = match found {
-            Err(_) => "the crate stops".to_string(),
-            Ok(Some(other)) if other != answer => format!("the crate answers {:?}, not {:?}", other, answer),
-            Ok(_) if crate_out != out || crate_out2 != out2 => {
-                let (found, due) = ([&crate_out[..], &crate_out2], [out, out2]);
-                format!("the crate leaves {}, not {}", text_of(&found), text_of(&due))
+        let Run { list, model, accounts, crate_map } = run;
+        let (tally, call) = (&mut self.tally, &list[list.len() - 1]);
+        let compared = running(list, || {
+            let (mut out, mut out2) = (untouched(call.out), untouched(call.out2));
+            let answer = step(tally, call, model, accounts, &mut out, &mut out2)?;
+            if !matches!(answer, Answer::Refused(_)) {
+                call_crate(tally, call, crate_map, answer, &out, &out2)?;
             }
-            Ok(_) => return Ok(()),
-        };
-        Err(run.difference(what))
+            read_crate(crate_map, model, call.k)
+        });
+        compared.map_err(|what| run.difference(what))
     }
 
     // Ends a list: the port runs it from an empty map, and its state is read after each call from number `from` on. Calls
     // before that were compared with another list.
     pub fn end(&mut self, run: &Run, from: usize) -> Result<(), Difference> {
+        if self.ports.is_empty() {
+            return Ok(());
+        }
         self.lists += 1;
-        let tape = Tape::of(&with_reads(&run.list, from));
-        self.run_tape(&tape).map_err(|what| run.difference(what))
+        let compared = running(&run.list, || self.run_tape(&Tape::of(&with_reads(&run.list, from))));
+        compared.map_err(|what| run.difference(what))
     }
 
     // The tape on the ports whose turn it is.
@@ -154,12 +140,66 @@ impl Session {
 
     // The port's answer to a tape that is no encoded list.
     pub fn tape(&mut self, tape: &Tape) -> Result<(), Difference> {
-        let found = self.ports.iter().find_map(|port| tape_difference(port.as_ref(), tape));
-        match found {
-            Some(what) => Err(Difference { list: tape.decode(), what }),
-            None => Ok(()),
-        }
+        let list = tape.decode();
+        let found = |port: &Box<dyn Port>| tape_difference(port.as_ref(), tape).map_or(Ok(()), Err);
+        let compared = running(&list, || self.ports.iter().try_for_each(found));
+        compared.map_err(|what| Difference { list, what })
     }
+}
+
+// Does a part of a list's comparison. A panic is a difference, and a crash prints the list.
+fn running(list: &[Call], part: impl FnOnce() -> Result<(), String>) -> Result<(), String> {
+    while_running(&Listed(list), || outcome_of(part)).unwrap_or_else(|stop| Err(format!("the driver {}", stop)))
+}
+
+// The call on the model, counted.
+fn step(
+    tally: &mut Tally,
+    call: &Call,
+    model: &mut Model,
+    accounts: &mut Accounts,
+    out: &mut [u64],
+    out2: &mut [u64],
+) -> Result<Answer, String> {
+    let (record, held) = (model.record(call.k).len() as u64, model.pairs.len() as u64);
+    let answer = model.step(call, out, out2);
+    tally.count(call.op, answer, model)?;
+    accounts.count(call, answer, record, held);
+    if !accounts.balanced(model) {
+        return Err(format!("the accounts {:?} do not balance", accounts));
+    }
+    Ok(answer)
+}
+
+// The call on the crate, with the answer and the slices that are due.
+fn call_crate(
+    tally: &mut Tally,
+    call: &Call,
+    map: &mut CrateMap,
+    answer: Answer,
+    out: &[u64],
+    out2: &[u64],
+) -> Result<(), String> {
+    if call.op == Op::Retain {
+        let members: Vec<u64> = map.map.iter().map(|pair| *pair.0).collect();
+        tally.split_retains += strikes_neighbours(&members, &call.marks) as u64;
+    }
+    let (mut crate_out, mut crate_out2) = (untouched(call.out), untouched(call.out2));
+    let found = outcome_of(|| map.call(call, &mut crate_out, &mut crate_out2));
+    match found.map_err(|stop| format!("the crate {}", stop))? {
+        Some(other) if other != answer => Err(format!("the crate answers {:?}, not {:?}", other, answer)),
+        _ if crate_out != out || crate_out2 != out2 => {
+            let (found, due) = ([&crate_out[..], &crate_out2], [out, out2]);
+            Err(format!("the crate leaves {}, not {}", text_of(&found), text_of(&due)))
+        }
+        _ => Ok(()),
+    }
+}
+
+// The crate's whole state beside the model's; `named` is the member of the call just made.
+fn read_crate(map: &CrateMap, model: &Model, named: u64) -> Result<(), String> {
+    let seen = outcome_of(|| map.difference(model, named)).map_err(|stop| format!("in a read, the crate {}", stop))?;
+    seen.map_or(Ok(()), |what| Err(format!("in the crate, {}", what)))
 }
 
 // The members up to which all records are read on a tape after every call. Above, the record that the call names is read
@@ -213,7 +253,8 @@ pub fn tape_difference(port: &dyn Port, tape: &Tape) -> Option<String> {
         let (answer, slice, slice2) = (4 * at..4 * at + 4, out..out + call.out, out2..out2 + call.out2);
         let (left, right) = (part(&found, &answer, &slice, &slice2), part(&due, &answer, &slice, &slice2));
         if left != right {
-            return Some(format!("at {}, the port leaves {}, not {}", call, text_of(&left), text_of(&right)));
+            let (left, right, unknown) = (text_of(&left), text_of(&right), unknown_refusal(left[0]));
+            return Some(format!("at {}, the port leaves {}, not {}{}", call, left, right, unknown));
         }
         out += call.out;
         out2 += call.out2;
@@ -226,6 +267,14 @@ type Span = std::ops::Range<usize>;
 // The answer and the slices of one call on a tape.
 fn part<'tape>(tape: &'tape Tape, answer: &Span, slice: &Span, slice2: &Span) -> [&'tape [u64]; 3] {
     [&tape.answers[answer.clone()], &tape.outs[slice.clone()], &tape.outs2[slice2.clone()]]
+}
+
+// A remark on four numbers that are no answer, since they refuse by a number that document 01 does not have.
+fn unknown_refusal(words: &[u64]) -> String {
+    match *words {
+        [0, number, 0, 0] if !is_refusal(number) => format!("; {} is no refusal of document 01", number),
+        _ => String::new(),
+    }
 }
 
 // Numbers to print, with _ where a slice was not written to.

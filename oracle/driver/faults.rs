@@ -1,31 +1,14 @@
 // What the crate does where document 01 says otherwise, each confirmed by a run. docs/DIFFERENCES.md has it as a table.
 
 use crate::crate_map::{strikes_neighbours, CrateMap};
+use crate::linked;
 use crate::model::{Call, Model, Op, MAX_MEMBERS, MAX_ROUNDS};
-use crate::port::{self, answer_of, ModelPort, Port, Tape};
+use crate::port::{answer_of, ModelPort, Port, Tape};
+use crate::stops::{note_panics, outcome_of};
 use std::collections::VecDeque;
-use std::panic::{catch_unwind, set_hook, AssertUnwindSafe};
-use std::sync::Mutex;
-
-static LAST_STOP: Mutex<String> = Mutex::new(String::new());
-
-// Keeps the place and the message of each stop.
-fn note_stops() {
-    set_hook(Box::new(|info| {
-        let text = info.payload().downcast_ref::<&str>().map(|text| text.to_string());
-        let text = text.or_else(|| info.payload().downcast_ref::<String>().cloned()).unwrap_or_default();
-        let place = info.location().map(|at| format!("{}:{}", at.file(), at.line())).unwrap_or_default();
-        *LAST_STOP.lock().unwrap() = format!("stops at {}, \"{}\"", place, text);
-    }));
-}
-
-// What a run of the crate comes to, or where and why it stops.
-fn outcome_of<Found>(run: impl FnOnce() -> Found) -> Result<Found, String> {
-    catch_unwind(AssertUnwindSafe(run)).map_err(|_| LAST_STOP.lock().unwrap().clone())
-}
 
 pub fn run() -> bool {
-    note_stops();
+    note_panics();
     let checks = [
         ("the smallest stop", smallest_stop()),
         ("stops exactly at neighbours", stops_exactly_at_neighbours()),
@@ -52,9 +35,9 @@ fn say(input: &str, crate_does: &str, list: &[Call]) -> bool {
     if !list.is_empty() {
         let due = last_answer(list, &ModelPort);
         println!("document: {}", due);
-        let found: Vec<String> = port::linked().iter().map(|port| last_answer(list, port.as_ref())).collect();
+        let found: Vec<String> = linked::ports().iter().map(|port| last_answer(list, port.as_ref())).collect();
         agrees = found.iter().all(|found| *found == due);
-        println!("port:     {}", found[0]);
+        println!("port:     {}", found.first().map_or("not linked", |found| found));
     }
     println!();
     agrees

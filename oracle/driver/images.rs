@@ -3,51 +3,69 @@
 use crate::image;
 use crate::library::{Map, PortMap};
 use crate::lists::Random;
-use crate::model::{Answer, Call, Model, Op, Pair};
-use crate::port::{untouched, words};
+use crate::model::{Answer, Call, Model, Op, Pair, RefusedBy, REFUSALS};
+use crate::port::{is_refusal, untouched, words};
+use crate::stops::while_running;
 
 const RANDOM_STRINGS: u64 = 1_000_000;
-
-// How many strings were read, by the number of their refusal; 0 for none.
-#[derive(Default)]
-struct Tally {
-    by: [u64; 15],
-}
 
 struct Reader {
     map: PortMap,
     // what the map's arrays hold before an image is read to them, in turn
     garbage: Vec<Map>,
-    tally: Tally,
+    // how many strings were read, by the number of their refusal; 0 for none
+    read: RefusedBy,
 }
 
 // Do both readings always agree?
 pub fn run(seed: u64) -> bool {
-    println!("images, seed {}", seed);
-    let garbage = (0..8).map(|turn| Map::any(&mut Random(turn))).collect();
-    let mut reader = Reader { map: PortMap::new(), garbage, tally: Tally::default() };
-    let outcome = changed_images(&mut reader).and_then(|()| random_strings(&mut reader, seed));
+    let outcome = compare(seed);
     match &outcome {
-        Ok(()) => println!("disagreements: 0"),
+        Ok(_) => println!("disagreements: 0"),
         Err(found) => println!("disagreements: 1: {}", found),
     }
     outcome.is_ok()
 }
 
-fn print_tally(name: &str, tally: &Tally) {
-    let refused: Vec<String> = (11..15).map(|number| format!("refused by {}: {}", number, tally.by[number])).collect();
-    let all: u64 = tally.by.iter().sum();
-    println!("{}: {} byte strings, done: {}, {}", name, all, tally.by[0], refused.join(", "));
+// How often a reading was refused, by number, or where the two disagree.
+pub fn compare(seed: u64) -> Result<RefusedBy, String> {
+    println!("images, seed {}", seed);
+    let garbage: Vec<Map> = (0..8).map(|turn| Map::any(&mut Random(turn))).collect();
+    let mut reader = Reader { map: PortMap::new(), garbage, read: RefusedBy::default() };
+    changed_images(&mut reader)?;
+    print_tally("every byte of small images changed to every value", &reader.read);
+    let changed = std::mem::take(&mut reader.read);
+    random_strings(&mut reader, seed)?;
+    print_tally("random", &reader.read);
+    let mut refused = RefusedBy::default();
+    for number in 1..=REFUSALS {
+        refused[number] = changed[number] + reader.read[number];
+    }
+    Ok(refused)
+}
+
+fn print_tally(name: &str, read: &RefusedBy) {
+    let refused: Vec<String> = (11..15).map(|number| format!("refused by {}: {}", number, read[number])).collect();
+    let all: u64 = read.iter().sum();
+    println!("{}: {} byte strings, done: {}, {}", name, all, read[0], refused.join(", "));
 }
 
 impl Reader {
     // Reads the bytes on both sides, for the port to arrays that hold anything, and compares answer and map; then writes the
     // map again.
     fn read(&mut self, bytes: &[u8]) -> Result<(), String> {
+        while_running(&format_args!("  om_read_image of {:?}", bytes), || self.compare_reading(bytes))
+    }
+
+    fn compare_reading(&mut self, bytes: &[u8]) -> Result<(), String> {
         let due = image::read(bytes);
-        self.tally.by[*due.as_ref().err().unwrap_or(&0) as usize] += 1;
-        let answer = words(due.as_ref().map_or_else(|&number| Answer::Refused(number), |_| Answer::Done));
-        let turn = self.tally.by.iter().sum::<u64>() as usize % self.garbage.len();
+        let refused = due.as_ref().err().copied();
+        if refused.map_or(false, |number| !is_refusal(number)) {
+            return Err(format!("image.rs refuses by {:?}, which is no number of document 01", refused));
+        }
+        self.read[refused.unwrap_or(0) as usize] += 1;
+        let answer = words(refused.map_or(Answer::Done, Answer::Refused));
+        let turn = self.read.iter().sum::<u64>() as usize % self.garbage.len();
         self.map.spoil(&self.garbage[turn]);
         let found = self.map.read_image(bytes);
         if found != answer {
@@ -118,8 +136,6 @@ fn changed_images(reader: &mut Reader) -> Result<(), String> {
             reader.read(&[&whole[..], &[0]].concat())?;
         }
     }
-    print_tally("every byte of small images changed to every value", &reader.tally);
-    reader.tally = Tally::default();
     Ok(())
 }
 
@@ -128,7 +144,6 @@ fn random_strings(reader: &mut Reader, seed: u64) -> Result<(), String> {
     for _ in 0..RANDOM_STRINGS {
         reader.read(&random_string(&mut random))?;
     }
-    print_tally("random", &reader.tally);
     Ok(())
 }
 

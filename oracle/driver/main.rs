@@ -1,21 +1,32 @@
 // Runs lists of calls beside the Rust crate: on document 01's steps, on the crate and on the port.
+#![allow(unknown_lints, unexpected_cfgs)]
 
+#[cfg(not(without_port))]
 mod bench;
+#[cfg(not(without_port))]
 mod bench_cases;
 mod calls;
+#[cfg(not(without_port))]
 mod chart;
+#[cfg(not(without_port))]
 mod clock;
 mod compare;
+mod coverage;
 mod crate_map;
+#[cfg(not(without_port))]
 mod damage;
 #[path = "../../bindings/rust/src/declarations.rs"]
 mod declarations;
 mod faults;
 mod image;
+#[cfg(not(without_port))]
 mod images;
+#[cfg(not(without_port))]
 mod library;
 mod line_loads;
 mod lines;
+#[cfg_attr(without_port, path = "unlinked.rs")]
+mod linked;
 mod lists;
 mod mixes;
 mod model;
@@ -23,59 +34,81 @@ mod port;
 mod sample;
 mod selftest;
 mod shrink;
+mod stops;
 
-use compare::{Difference, Session};
+use compare::{Difference, Listed, Session};
 use lists::Random;
-use model::OPS;
+use model::{OPS, REFUSALS};
 use std::process::exit;
 use std::time::Instant;
 
-const USAGE: &str = "usage: driver quick [SEED] | full [SEED] | selftest | faults | mixes | sample [write]
+const USAGE: &str = "usage: driver quick [SEED] | full [SEED] | selftest [CRASH] | faults | mixes | sample [write]
        | damage [SEED] | images [SEED] | calls [SEED] | lines [passes] | bench";
 
 fn main() {
     let words: Vec<String> = std::env::args().skip(1).collect();
     let mode = words.first().map_or("", |word| word.as_str());
-    let seed = words.get(1).map_or(Some(1), |word| word.parse().ok());
+    let second = words.get(1).map_or("", |word| word.as_str());
+    let seed = if words.len() < 2 { Some(1) } else { second.parse().ok() };
+    stops::report_crashes();
+    if linked::ports().is_empty() && std::env::var_os("ORACLE_WITHOUT_PORT").is_none() {
+        eprintln!("the driver is built without the port; ORACLE_WITHOUT_PORT=1 asks for that");
+        exit(1)
+    }
     let passed = match (mode, seed) {
         ("quick", Some(seed)) => compare_all(false, seed),
         ("full", Some(seed)) => compare_all(true, seed),
+        ("selftest", _) if words.len() == 2 => selftest::crash(second),
         ("selftest", _) => selftest::run(),
         ("faults", _) => faults::run(),
         ("mixes", _) => mixes::run(),
-        ("sample", _) => sample::run(words.get(1).map_or(false, |word| word == "write")),
-        ("damage", Some(seed)) => damage::run(seed),
-        ("images", Some(seed)) => images::run(seed),
-        ("lines", _) => lines::run(words.get(1).map_or(false, |word| word == "passes")),
+        ("sample", _) => sample::run(second == "write"),
+        ("lines", _) => lines::run(second == "passes"),
         ("calls", Some(seed)) => calls::run(seed),
-        ("bench", _) => bench::run(),
-        _ => {
-            eprintln!("{}", USAGE);
-            exit(2)
-        }
+        (mode, Some(seed)) => linked::run(mode, seed).unwrap_or_else(usage),
+        _ => usage(),
     };
     exit(if passed { 0 } else { 1 })
 }
 
-// Runs all lists. Was there no difference?
+fn usage() -> bool {
+    eprintln!("{}", USAGE);
+    exit(2)
+}
+
+// Runs all lists and images. Was there no difference, and was everything met that has to be?
 fn compare_all(full: bool, seed: u64) -> bool {
     // a stop of the crate is a difference, and reported as one
-    std::panic::set_hook(Box::new(|_| {}));
+    stops::note_panics();
     println!("seed {}", seed);
-    let mut session = Session::new(port::linked());
-    let outcome = run_lists(&mut session, full, seed);
-    print_tally(&session);
-    match outcome {
-        Ok(()) => {
-            println!("differences: 0");
-            true
-        }
-        Err(first) => {
-            let smallest = shrink::shrink(first, 60, |list| Session::new(port::linked()).list(list).err());
-            print_difference(&smallest);
-            false
+    let mut session = Session::new(linked::ports());
+    if let Err(first) = run_lists(&mut session, full, seed) {
+        let smallest = shrink::shrink(first, 60, |list| Session::new(linked::ports()).list(list).err());
+        print_difference(&smallest);
+        return false;
+    }
+    let images = stops::outcome_of(|| linked::compare_images(seed)).and_then(|found| found);
+    match images {
+        Ok(refused) => (1..=REFUSALS).for_each(|number| session.tally.refused_by[number] += refused[number]),
+        Err(what) => {
+            println!("differences: 1, of images: {}", what);
+            return false;
         }
     }
+    print_tally(&session);
+    met_all(&session)
+}
+
+// Says what the comparison came to. Did it meet all that it has to?
+fn met_all(session: &Session) -> bool {
+    let with_port = !linked::ports().is_empty();
+    if !with_port {
+        println!("the port was left out, as ORACLE_WITHOUT_PORT asks");
+    }
+    let gaps = coverage::gaps(&session.tally, with_port);
+    gaps.iter().for_each(|gap| println!("not met: {}", gap));
+    println!("differences: 0{}", if gaps.is_empty() { ", and all was met" } else { ", but this says too little" });
+    gaps.is_empty()
 }
 
 fn run_lists(session: &mut Session, full: bool, seed: u64) -> Result<(), Difference> {
@@ -114,7 +147,7 @@ fn print_tally(session: &Session) {
     let refused: u64 = tally.refused.iter().sum();
     let on_crate: u64 = tally.on_crate.iter().sum();
     println!("{:24} {:>10} {:>10} {:>10}", "all", tally.calls(), refused, on_crate);
-    let by: Vec<String> = (1..=10).map(|number| format!("{}: {}", number, tally.refused_by[number])).collect();
+    let by: Vec<String> = (1..=REFUSALS).map(|number| format!("{}: {}", number, tally.refused_by[number])).collect();
     println!("refusals by number: {}", by.join(", "));
     println!("most rounds held: {}, most members held: {}", tally.most_rounds, tally.most_members);
     println!("retains given to the crate in several passes: {}", tally.split_retains);
@@ -124,8 +157,6 @@ fn print_tally(session: &Session) {
 
 fn print_difference(difference: &Difference) {
     println!("differences: 1, with the smallest list that shows one:");
-    for call in &difference.list {
-        println!("  {}", call);
-    }
+    print!("{}", Listed(&difference.list));
     println!("{}", difference.what);
 }

@@ -5,6 +5,11 @@ use std::fmt;
 pub const MAX_ROUNDS: usize = 1024;
 pub const MAX_MEMBERS: usize = 256;
 pub const MAX_TAKEN: u64 = 4_294_967_295;
+// refusals have the numbers from 1 on
+pub const REFUSALS: usize = 14;
+
+// How often something was refused, by the refusals' numbers.
+pub type RefusedBy = [u64; REFUSALS + 1];
 
 // The calls, in the order of their numbers in a tape.
 #[derive(Clone, Copy, Debug, PartialEq, Eq)]

@@ -1,7 +1,6 @@
 // Tapes of calls, and what runs them.
 
-use crate::library::{ByValue, PortMap, Tapes};
-use crate::model::{Answer, Call, Model, Op, OPS};
+use crate::model::{Answer, Call, Model, Op, OPS, REFUSALS};
 
 // A tape: six numbers for each call (its number, k, v, the lengths of its out slice, its second one and its marks); all
 // out slices, second ones and marks one after the other, each kind on its own; and room for four numbers of each answer.
@@ -88,7 +87,7 @@ pub fn words(answer: Answer) -> [u64; 4] {
 // The answer of four numbers, if they are one's.
 pub fn answer_of(words: &[u64]) -> Option<Answer> {
     let answer = match *words {
-        [0, number, 0, 0] => Answer::Refused(number),
+        [0, number, 0, 0] if is_refusal(number) => Answer::Refused(number),
         [1, 0, 0, 0] => Answer::None,
         [2, 0, 0, 0] => Answer::Done,
         [3, v, 0, 0] => Answer::Round(v),
@@ -100,6 +99,11 @@ pub fn answer_of(words: &[u64]) -> Option<Answer> {
         _ => return None,
     };
     Some(answer)
+}
+
+// Has document 01 a refusal of this number?
+pub fn is_refusal(number: u64) -> bool {
+    (1..=REFUSALS as u64).contains(&number)
 }
 
 // What runs a tape from an empty map: it fills the tape's slices and answers, leaves the rest as it is, and says how many
@@ -157,14 +161,4 @@ impl<State: Clone + PartialEq> Port for OneByOne<State> {
         });
         wrong.map_or(Ok(ran), Err)
     }
-}
-
-// The port: by its function for tapes, by one function for each call, by the one that takes a call's number, and by value.
-pub fn linked() -> Vec<Box<dyn Port>> {
-    vec![
-        Box::new(Tapes),
-        Box::new(OneByOne { new: PortMap::new, call: PortMap::call }),
-        Box::new(OneByOne { new: PortMap::new, call: PortMap::call_by_number }),
-        Box::new(OneByOne { new: ByValue::new, call: ByValue::call }),
-    ]
 }

@@ -1,0 +1,28 @@
+// What a comparison has to meet, or it would say little: every call, every refusal, both limits, and the port in each way.
+
+use crate::compare::Tally;
+use crate::model::{Op, MAX_MEMBERS, MAX_ROUNDS, OPS, REFUSALS};
+
+// What the run did not meet. Without the port there are no images, and so no refusals of them.
+pub fn gaps(tally: &Tally, with_port: bool) -> Vec<String> {
+    let mut gaps = Vec::new();
+    for (op, name) in OPS {
+        let on_crate = tally.on_crate[op as usize] > 0 || op == Op::Taken;
+        if tally.made[op as usize] == 0 || !on_crate {
+            gaps.push(format!("{} was never made and accepted", name));
+        }
+    }
+    let last = if with_port { REFUSALS } else { 10 };
+    let unmet = (1..=last).filter(|&number| tally.refused_by[number] == 0);
+    gaps.extend(unmet.map(|number| format!("nothing was refused by {}", number)));
+    if tally.most_rounds != MAX_ROUNDS {
+        gaps.push(format!("no map held {} rounds, but {} at most", MAX_ROUNDS, tally.most_rounds));
+    }
+    if tally.most_members != MAX_MEMBERS {
+        gaps.push(format!("no map held {} members, but {} at most", MAX_MEMBERS, tally.most_members));
+    }
+    if with_port && (tally.tapes == 0 || tally.one_by_one == 0) {
+        gaps.push("the port was not run in each of its ways".to_string());
+    }
+    gaps
+}
