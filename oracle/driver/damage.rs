@@ -3,6 +3,7 @@
 use crate::library::{Map, PortMap};
 use crate::lists::{start_place, Random};
 use crate::model::{Call, Op};
+use crate::stops::while_running;
 use std::collections::HashSet;
 
 // The places of a list in order, where its links and its freed places are right.
@@ -147,7 +148,9 @@ pub fn run(seed: u64) -> bool {
             for _ in 0..round % 3 {
                 damage(&mut m, &mut random);
             }
-            let said = m.well_linked();
+            let at = yes + no + 1;
+            let said =
+                while_running(&format_args!("  om_well_linked of record {}, seed {}", at, seed), || m.well_linked());
             other += (said != well_linked(&m)) as u64;
             if said {
                 yes += 1

@@ -15,8 +15,7 @@ mod coverage;
 mod crate_map;
 #[cfg(not(without_port))]
 mod damage;
-#[path = "../../bindings/rust/src/declarations.rs"]
-mod declarations;
+mod endings;
 mod faults;
 mod image;
 #[cfg(not(without_port))]
@@ -58,7 +57,7 @@ fn main() {
     let passed = match (mode, seed) {
         ("quick", Some(seed)) => compare_all(false, seed),
         ("full", Some(seed)) => compare_all(true, seed),
-        ("selftest", _) if words.len() == 2 => selftest::crash(second),
+        ("selftest", _) if words.len() == 2 => endings::crash(second),
         ("selftest", _) => selftest::run(),
         ("faults", _) => faults::run(),
         ("mixes", _) => mixes::run(),
@@ -102,12 +101,10 @@ fn compare_all(full: bool, seed: u64) -> bool {
 // Says what the comparison came to. Did it meet all that it has to?
 fn met_all(session: &Session) -> bool {
     let with_port = !linked::ports().is_empty();
-    if !with_port {
-        println!("the port was left out, as ORACLE_WITHOUT_PORT asks");
-    }
     let gaps = coverage::gaps(&session.tally, with_port);
     gaps.iter().for_each(|gap| println!("not met: {}", gap));
-    println!("differences: 0{}", if gaps.is_empty() { ", and all was met" } else { ", but this says too little" });
+    let left_out = if with_port { "" } else { ", with the port left out, as ORACLE_WITHOUT_PORT asks" };
+    println!("differences: 0{}{}", left_out, if gaps.is_empty() { "" } else { "; but this says too little" });
     gaps.is_empty()
 }
 

@@ -1,17 +1,16 @@
-// Tests of the driver itself: the model against document 01's own examples, tapes, and ports that are wrong on purpose,
-// each of which the comparison has to find.
+// Tests of the driver itself: the model against document 01's own examples, tapes, how a run ends (endings.rs), and ports
+// that are wrong on purpose, each of which the comparison has to find.
 
-use crate::compare::{Difference, Listed, Session, Tally};
-use crate::coverage;
+use crate::compare::{Difference, Session};
 use crate::crate_map::{passes, strikes_neighbours, CrateMap};
+use crate::endings;
 use crate::image;
 use crate::lines::{answer_chunk, Book};
 use crate::lists::{self, fnv, start_place, Random};
-use crate::model::{Answer, Call, Model, Op, MAX_MEMBERS, MAX_ROUNDS, OPS, REFUSALS};
+use crate::model::{Answer, Call, Model, Op, MAX_ROUNDS};
 use crate::port::{answer_of, replay_with, words, ModelPort, OneByOne, Port, Tape};
 use crate::shrink::shrink;
 use crate::stops::note_panics;
-use std::process::Command;
 
 pub fn run() -> bool {
     note_panics();
@@ -25,11 +24,8 @@ pub fn run() -> bool {
         ("another state of the crate is seen", other_states_are_seen()),
         ("lines of document 01's example", lines_of_the_example()),
         ("images by hand", images_by_hand()),
-        ("what was not met is told", gaps_are_told()),
-        ("an unknown refusal is told", unknown_refusals_are_told()),
-        ("a panic is a difference with its list", panics_are_told()),
-        ("a crash prints its list", CRASHES.iter().all(|(name, _)| crash_prints_its_list(name))),
     ];
+    checks.extend(endings::checks());
     checks.extend(WRONG.map(|(name, step)| (name, is_found(&|| Box::new(WrongPort(step))))));
     checks.push(("wrong: a removal leaves a gap in the index", is_found(&|| Box::new(GapPort))));
     let unseen = |call| is_found(&|| Box::new(OneByOne { new: Unseen::default, call }));
@@ -100,7 +96,7 @@ fn published_hashes() -> bool {
     fnv(b"") == 0xcbf29ce484222325 && fnv(b"a") == 0xaf63dc4c8601ec8c && fnv(b"foobar") == 0x85944171f73967e8
 }
 
-fn sample() -> Vec<Call> {
+pub fn sample() -> Vec<Call> {
     vec![
         Call::new(Op::Append, 7, 10),
         Call::new(Op::Append, 9, 20),
@@ -261,100 +257,7 @@ fn images_by_hand() -> bool {
         && refused.iter().all(|(bytes, number)| image::read(bytes) == Err(*number))
 }
 
-// A tally that met everything, and the same with one thing missing in turn.
-fn gaps_are_told() -> bool {
-    let whole = || Tally {
-        made: [2; OPS.len()],
-        on_crate: [1; OPS.len()],
-        refused_by: [1; REFUSALS + 1],
-        most_rounds: MAX_ROUNDS,
-        most_members: MAX_MEMBERS,
-        tapes: 1,
-        one_by_one: 1,
-        ..Tally::default()
-    };
-    let without = |change: &dyn Fn(&mut Tally)| {
-        let mut tally = whole();
-        change(&mut tally);
-        coverage::gaps(&tally, true).len()
-    };
-    let none_on_crate = without(&|tally| tally.on_crate[Op::Taken as usize] = 0) == 0;
-    none_on_crate
-        && coverage::gaps(&whole(), true).is_empty()
-        && (0..OPS.len()).all(|op| without(&|tally| tally.made[op] = 0) == 1)
-        && (1..=REFUSALS).all(|number| without(&|tally| tally.refused_by[number] = 0) == 1)
-        && without(&|tally| tally.on_crate[Op::PopBack as usize] = 0) == 1
-        && without(&|tally| tally.most_rounds -= 1) == 1
-        && without(&|tally| tally.most_members -= 1) == 1
-        && without(&|tally| tally.tapes = 0) == 1
-        && without(&|tally| tally.one_by_one = 0) == 1
-}
-
-// By the steps, which would be a fault of the driver's, and by a port.
-fn unknown_refusals_are_told() -> bool {
-    let port = WrongPort(|_, _, _, _| Answer::Refused(15));
-    let found = Session::new(vec![Box::new(port)]).list(&sample()).err();
-    let counted = |number| Tally::default().count(Op::Append, Answer::Refused(number), &Model::default());
-    found.map_or(false, |found| found.what.contains("15 is no refusal of document 01"))
-        && [1, 14].map(counted) == [Ok(()), Ok(())]
-        && [0, 15, u64::MAX].map(counted).iter().all(|counted| counted.is_err())
-}
-
-fn panics_are_told() -> bool {
-    let port = WrongPort(|_, call, _, _| panic!("{} stops the port", call));
-    let found = Session::new(vec![Box::new(port)]).list(&sample()).err();
-    found.map_or(false, |found| found.list == sample() && found.what.contains("append 7 10 stops the port"))
-}
-
-// The ways to crash that are tried, each in a process of its own.
-const CRASHES: [(&str, fn()); 3] = [
-    ("abort", || std::process::abort()),
-    ("fault", || {
-        // no one has this address
-        unsafe { (8 as *const u64).read_volatile() };
-    }),
-    ("overflow", || {
-        endless(&[0; 64]);
-    }),
-];
-
-#[allow(unconditional_recursion)]
-fn endless(numbers: &[u64; 64]) -> u64 {
-    let more = numbers.map(|number| number + 1);
-    let at = endless(&more) % 64;
-    // what is read so late keeps the array on the stack
-    unsafe { std::ptr::read_volatile(&more[at as usize]) }
-}
-
-// The model, and a crash at pop_back.
-struct CrashingPort(fn());
-
-impl Port for CrashingPort {
-    fn replay(&self, tape: &mut Tape) -> Result<u64, String> {
-        let ran = replay_with(tape, &mut Model::default(), |model, call, out, out2| {
-            if call.op == Op::PopBack {
-                (self.0)();
-            }
-            words(model.step(call, out, out2))
-        });
-        Ok(ran)
-    }
-}
-
-// Crashes in this way while the sample is running.
-pub fn crash(name: &str) -> bool {
-    let crash = CRASHES.iter().find(|row| row.0 == name).expect("there is no such crash").1;
-    Session::new(vec![Box::new(CrashingPort(crash))]).list(&sample()).is_ok()
-}
-
-fn crash_prints_its_list(name: &str) -> bool {
-    let driver = std::env::current_exe().expect("the driver has a path");
-    let run = Command::new(driver).args(["selftest", name]).output().expect("the driver can be run");
-    let said = String::from_utf8_lossy(&run.stderr);
-    !run.status.success() && said.contains("crash by SIG") && said.contains(&Listed(&sample()).to_string())
-}
-
-type Step = fn(&mut Model, &Call, &mut [u64], &mut [u64]) -> Answer;
+pub type Step = fn(&mut Model, &Call, &mut [u64], &mut [u64]) -> Answer;
 
 // The model with one fault each.
 const WRONG: [(&str, Step); 10] = [
@@ -425,7 +328,7 @@ const WRONG: [(&str, Step); 10] = [
     }),
 ];
 
-struct WrongPort(Step);
+pub struct WrongPort(pub Step);
 
 impl Port for WrongPort {
     fn replay(&self, tape: &mut Tape) -> Result<u64, String> {
