@@ -1,7 +1,3 @@
-pub mod Puts
-pub mod Decimals
-pub mod Runs
-pub mod Sayings
-pub mod Texts
-pub mod Calls
+pub mod Outputs
+pub mod Chunks
 pub mod Whole

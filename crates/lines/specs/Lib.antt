@@ -1,5 +1,3 @@
-pub mod Text
-pub mod Put
-pub mod Answer
-pub mod Said
+pub mod Output
+pub mod Chunk
 pub mod Whole

@@ -1,14 +1,27 @@
--- What the calls program prints for a whole input, and document 01's example.
+-- What the calls program prints for an input that comes in chunks; and document 01's example.
 use Prim.Native.Nat.{ℕ}
+use mathlib.Core.Bool.{cond}
 use mathlib.Core.List.{List, [], _∷_, _++_}
+use lib.Dec.{eqb}
 use Rattle.steps.specs.State.{State}
-use Rattle.parsing.specs.Line.{lineOf}
-use Rattle.lines.specs.Answer.{answerOf, printed}
+use Rattle.parsing.specs.Line.{onto}
+use Rattle.lines.specs.Output.{outputOf, after}
+use Rattle.lines.specs.Chunk.{ended, rest, front, lastOf}
 
--- the lines one after another, each on the state that the one before left
-unfoldable pub outputOf : List (List ℕ) → State → List ℕ
-outputOf [] s = []
-outputOf (l ∷ ls) s = printed l s ++ outputOf ls (answerOf (lineOf l) s .1)
+-- the lines of an input: what stands before each line end; and what stands after the last, if there is any
+unfoldable pub linesOf : List ℕ → List (List ℕ)
+linesOf [] = []
+linesOf (b ∷ bs) = cond (eqb b 10) ([] ∷ linesOf bs) (onto b (linesOf bs))
+
+-- the chunks' bytes
+abbrev pub joined : List (List ℕ) → List ℕ
+joined [] = []
+joined (c ∷ cs) = c ++ joined cs
+
+-- what `answer_chunk` prints for each chunk, with what is held of the line before, and `answer_rest` at the end
+unfoldable pub said : List (List ℕ) → List ℕ → State → List ℕ
+said [] h s = outputOf (lastOf h) s
+said (c ∷ cs) h s = outputOf (ended h c) s ++ said cs (front (rest h c)) (after (ended h c) s)
 
 -- a 7 10, a 9 20, a 7 11, i 7 12, l, m, b, k 0, l
 abbrev pub exampleInput : List ℕ

@@ -10,7 +10,7 @@ use lib.Seq.{drop-cons}
 use lib.Dec.{eqb}
 use Rattle.parsing.specs.Line.{isDigit}
 use Rattle.parsing.specs.Split.{gap, Held}
-use Rattle.lines.specs.Text.{decimal}
+use Rattle.printing.specs.Text.{decimal}
 use Rattle.tapes.specs.Parts.{only, grown, numbersFrom, marksOf}
 use Rattle.tapes.specs.Printed.{separator, rows}
 use Rattle.tapes.proofs.Holds.{Coming, come-less, come-none}

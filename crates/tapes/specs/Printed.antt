@@ -10,7 +10,7 @@ use Rattle.steps.specs.Call.{Call}
 use Rattle.steps.specs.Step.{outcomes, over}
 use Rattle.replay.specs.Tape.{decode, outsOf, outs2Of, answersOf}
 use Rattle.parsing.specs.Split.{gap, Held}
-use Rattle.lines.specs.Text.{decimal, spaced}
+use Rattle.printing.specs.Text.{decimal, spaced}
 use Rattle.tapes.specs.Parts.{partOf, restOf, numbersOf, marksOf}
 use Rattle.tapes.specs.declared.Answered.{Answered}
 

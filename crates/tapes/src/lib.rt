@@ -1,13 +1,13 @@
 // Reads lists of calls as text, runs them, and prints what each leaves.
 mod parts;
-mod printing;
+mod rows;
 
 use parts::part;
 use parts::read_marks;
 use parts::read_numbers;
 use parts::rest;
-use printing::put_after;
-use printing::put_rows;
+use rows::put_after;
+use rows::put_rows;
 ghost use Prim.Native.Nat.{_≤_};
 ghost use lib.ListN.{length};
 ghost use Rattle.parsing.specs.Split.{Held};

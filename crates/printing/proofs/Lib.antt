@@ -1,0 +1,5 @@
+pub mod Puts
+pub mod Decimals
+pub mod Runs
+pub mod Sayings
+pub mod Texts
