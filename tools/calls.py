@@ -1,5 +1,5 @@
 #!/usr/bin/env python3
-"""What the calls program prints (document 01, module 8), by its own reading of the document, and inputs to try it on.
+"""What the calls program prints (document 01, module 8), by the model in steps.py, and inputs to try it on.
 
   calls.py                answers the lines of standard input
   calls.py gate           writes the input of crates/calls, whose answers are its stdout
@@ -9,71 +9,39 @@ import os
 import random
 import sys
 
-ROUNDS, MEMBERS, LONGEST = 1024, 256, 1100
+from steps import ROUNDS, Steps
+
+LONGEST = 1100
 
 
-class Book:
-    def __init__(self):
-        self.pairs = []
-        self.members = []
+def joined(word, values):
+    return ' '.join([word] + [str(value) for value in values])
 
-    def record(self, k):
-        return [v for (j, v) in self.pairs if j == k]
 
-    def settle(self):
-        held = {k for (k, _) in self.pairs}
-        self.members = [k for k in self.members if k in held]
+def call(steps, name, k=0, v=0, marks=''):
+    """The call's answer, with what it wrote to slices that have room for anything."""
+    out, out2 = [0] * ROUNDS, [0] * ROUNDS
+    said = steps.call(name, k, v, out, out2, [int(mark) for mark in marks])
+    return said, out, out2
 
-    def add(self, k, v):
-        self.pairs.append((k, v))
-        if k not in self.members:
-            self.members.append(k)
 
-    def no_room(self, k):
-        if len(self.pairs) >= ROUNDS:
-            return 'refused 1'
-        if k not in self.members and len(self.members) >= MEMBERS:
-            return 'refused 2'
-        return None
-
-    def append(self, k, v):
-        refused = self.no_room(k)
-        if refused:
-            return refused
-        was = k in self.members
-        self.add(k, v)
-        return 'present' if was else 'new'
-
-    def insert_all(self, k, v):
-        if k not in self.members:
-            refused = self.no_room(k)
-            if refused:
-                return refused
-        old = self.record(k)
-        self.pairs = [p for p in self.pairs if p[0] != k]
-        self.add(k, v)
-        return ' '.join(['old', str(len(old))] + [str(r) for r in old])
-
-    def remove_all(self, k):
-        old = self.record(k)
-        self.pairs = [p for p in self.pairs if p[0] != k]
-        self.settle()
-        return ' '.join(['old', str(len(old))] + [str(r) for r in old])
-
-    def pop(self, at):
-        if not self.pairs:
-            return 'none'
-        k, v = self.pairs.pop(at)
-        gone = all(j != k for (j, _) in self.pairs)
-        self.settle()
-        return 'pop %d %d %s' % (k, v, 'gone' if gone else 'stays')
-
-    def retain(self, marks):
-        if len(marks) != len(self.pairs):
-            return 'refused 7'
-        self.pairs = [p for p, m in zip(self.pairs, marks) if m == '1']
-        self.settle()
-        return 'kept %d' % len(self.pairs)
+def printed(name, said, out, out2):
+    kind, a, b, c = said
+    if kind == 0:
+        return 'refused %d' % a
+    if kind == 1:
+        return 'none'
+    if name == 'append':
+        return 'present' if a else 'new'
+    if name in ('insert_all', 'remove_all'):
+        return joined('old', [a] + out[:a])
+    if name == 'retain':
+        return 'kept %d' % a
+    if name == 'keys':
+        return joined('keys', out[:a])
+    if name == 'iter':
+        return joined('list', ['%d:%d' % pair for pair in zip(out[:a], out2[:a])])
+    return 'pop %d %d %s' % (a, b, 'gone' if c else 'stays')
 
 
 def number(field):
@@ -83,35 +51,34 @@ def number(field):
     return value if value < 2 ** 64 else None
 
 
-def answer(book, line):
-    if len(line) > LONGEST:
-        return 'line?'
+def request(line):
+    """The call that a line asks for and its arguments, or None."""
     fields = line.decode('latin-1').split(' ')
     letter, rest = fields[0], fields[1:]
-    numbers = [number(f) for f in rest]
+    numbers = [number(field) for field in rest]
+    if len(line) > LONGEST:
+        return None
     if letter in ('a', 'i') and len(rest) == 2 and None not in numbers:
-        return (book.append if letter == 'a' else book.insert_all)(*numbers)
+        return ('append' if letter == 'a' else 'insert_all', *numbers)
     if letter == 'r' and len(rest) == 1 and None not in numbers:
-        return book.remove_all(numbers[0])
-    if letter in ('f', 'b') and not rest:
-        return book.pop(0 if letter == 'f' else -1)
-    if letter == 'k' and not rest:
-        return book.retain('')
+        return ('remove_all', *numbers)
     if letter == 'k' and len(rest) == 1 and rest[0] and all(c in '01' for c in rest[0]):
-        return book.retain(rest[0])
-    if letter == 'l' and not rest:
-        return ' '.join(['list'] + ['%d:%d' % p for p in book.pairs])
-    if letter == 'm' and not rest:
-        return ' '.join(['keys'] + [str(k) for k in book.members])
-    return 'line?'
+        return ('retain', 0, 0, rest[0])
+    alone = {'f': 'pop_front', 'b': 'pop_back', 'k': 'retain', 'l': 'iter', 'm': 'keys'}
+    return (alone[letter],) if letter in alone and not rest else None
+
+
+def answer(steps, line):
+    asked = request(line)
+    return printed(asked[0], *call(steps, *asked)) if asked else 'line?'
 
 
 def answers(data):
     lines = data.split(b'\n')
     if lines[-1] == b'':
         lines.pop()
-    book = Book()
-    return ''.join(answer(book, line) + '\n' for line in lines).encode()
+    steps = Steps()
+    return ''.join(answer(steps, line) + '\n' for line in lines).encode()
 
 
 MALFORMED = [
@@ -145,14 +112,14 @@ def cases():
         r = random.Random(seed)
         wide = r.choice([3, 12, 300])
         lines = []
-        book = Book()
+        steps = Steps()
         for _ in range(r.choice([50, 400, 3000])):
             k, v = r.randrange(wide), r.choice([r.randrange(9), r.randrange(2 ** 64)])
             line = r.choice([b'a %d %d' % (k, v)] * r.choice([2, 9]) + [b'i %d %d' % (k, v), b'r %d' % k, b'f', b'b', b'l', b'm', b'k', None, r.choice(MALFORMED)])
             if line is None:
-                length = len(book.pairs) + r.choice([0, 0, 0, 1])
+                length = len(steps.pairs) + r.choice([0, 0, 0, 1])
                 line = b'k' + (b' ' if length else b'') + bytes(r.choice(b'0111') for _ in range(length))
-            answer(book, line)
+            answer(steps, line)
             lines.append(line)
         yield 'mixed_%02d' % seed, b'\n'.join(lines) + r.choice([b'', b'\n'])
 
