@@ -8,7 +8,7 @@
 #                                        an argument)
 #   oracle/run.sh calls [SEED]           the calls program beside the same lines over the crate
 #   oracle/run.sh bench                  the time of each call, with a chart to docs/benchmarks.svg; then of the calls program
-#   oracle/run.sh sample                 write the sample of the crate's answers anew: crates/crate_answers/stdin and stdout
+#   oracle/run.sh sample                 write the sample of the crate's answers anew: its part of crates/stored_lists/stdin and stdout
 #
 # ORACLE_SOURCE names list_ordered_multimap.rs where it does not stand beside the work tree (oracle/build.sh).
 # ORACLE_WITHOUT_PORT=1 leaves the port out, so that rt is not needed: then document 01's steps are compared with the crate

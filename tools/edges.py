@@ -1,9 +1,9 @@
 #!/usr/bin/env python3
-"""What crates/edges reads and must print, by a model written from document 01: `python3 tools/edges.py`, which writes crates/edges/stdin and
-crates/edges/stdout.
+"""What crates/stored_lists reads and must print, by the model in steps.py: `python3 tools/edges.py`, which writes the first part of
+crates/stored_lists/stdin and stdout, up to the list called "the crate's own answers". The lists from there on are oracle/driver/sample.rs's.
 
 How a list of calls is written as text, and what is printed of it, is in crates/tapes/specs; the numbers of a call are in
-crates/replay/specs/Tape.antt, those of an answer in crates/answers/specs/Coded.antt. In front of a call's six numbers stands its name; a
+crates/replay/specs/Tape.antt, those of an answer in crates/steps/specs/Coded.antt. In front of a call's six numbers stands its name; a
 program that reads the text passes over it.
 
 T's ceiling, 4,294,967,295, is out of reach here: T grows by one with a call, and a list has at most 8,192. That T is the number of accepted
@@ -12,181 +12,12 @@ rounds, up to its ceiling, is proved of every list: `taken-counts` (crates/steps
 """
 import os
 
-ROUNDS, MEMBERS, CEILING = 1024, 256, 4294967295
+from steps import MEMBERS, ROUNDS, Steps
+
 TOP = 2**64 - 1
 CALLS = """append insert insert_all remove remove_all entry occupied_append occupied_insert occupied_remove_entry vacant_insert pop_front pop_back
 retain pack_to clear get get_all entry_len contains_key keys keys_len values_len iter taken""".split()
 LENDING = ("insert_all", "remove_all", "get_all", "keys", "iter")
-
-
-# --- document 01: the refusals and the steps
-
-def refused(number):
-    return (0, number, 0, 0)
-
-
-NONE, DONE = (1, 0, 0, 0), (2, 0, 0, 0)
-
-
-def first(record):
-    return (3, record[0], 0, 0) if record else NONE
-
-
-def count(n):
-    return (4, n, 0, 0)
-
-
-def write(out, values):
-    out[: len(values)] = values
-    return count(len(values))
-
-
-class Steps:
-    def __init__(self):
-        self.pairs = []
-        self.members = []
-        self.taken_in = 0
-
-    def record(self, k):
-        return [v for j, v in self.pairs if j == k]
-
-    def add(self, k, v):
-        self.pairs.append((k, v))
-        if k not in self.members:
-            self.members.append(k)
-        self.taken_in = min(self.taken_in + 1, CEILING)
-
-    def leave(self, k):
-        """k's pairs leave P; K is left alone."""
-        old = self.record(k)
-        self.pairs = [p for p in self.pairs if p[0] != k]
-        return old
-
-    def settle(self):
-        """Members without a pair leave K."""
-        held = {k for k, _ in self.pairs}
-        self.members = [k for k in self.members if k in held]
-
-    def rows(self, name, k, v, out, out2, marks):
-        """The table of refusals: the rows that are this call's, in order."""
-        present = k in self.members
-        if name.startswith("occupied"):
-            yield 9, not present
-        if name == "vacant_insert":
-            yield 10, present
-        if name in ("append", "occupied_append") or (name in ("insert", "insert_all", "vacant_insert") and not present):
-            yield 1, len(self.pairs) == ROUNDS
-            yield 2, not present and len(self.members) == MEMBERS
-        if name in ("insert_all", "remove_all", "get_all"):
-            yield 3, len(out) < len(self.record(k))
-        if name == "keys":
-            yield 3, len(out) < len(self.members)
-        if name == "iter":
-            yield 3, min(len(out), len(out2)) < len(self.pairs)
-        if name == "retain":
-            yield 7, len(marks) != len(self.pairs)
-            yield 8, any(mark not in (0, 1) for mark in marks)
-        if name == "pack_to":
-            yield 4, k < len(self.members)
-            yield 5, v < len(self.pairs)
-            yield 6, k > MEMBERS or v > ROUNDS
-
-    def call(self, name, k, v, out, out2, marks):
-        """The answer's four numbers; the lent slices are written in place."""
-        for number, holds in self.rows(name, k, v, out, out2, marks):
-            if holds:
-                return refused(number)
-        return getattr(self, name)(k, v, out, out2, marks)
-
-    def append(self, k, v, out, out2, marks):
-        present = k in self.members
-        self.add(k, v)
-        return (5, int(present), 0, 0)
-
-    def insert(self, k, v, out, out2, marks):
-        old = self.leave(k)
-        self.add(k, v)
-        return first(old)
-
-    def insert_all(self, k, v, out, out2, marks):
-        old = self.leave(k)
-        self.add(k, v)
-        return write(out, old)
-
-    def remove(self, k, v, out, out2, marks):
-        old = self.leave(k)
-        self.settle()
-        return first(old)
-
-    def remove_all(self, k, v, out, out2, marks):
-        old = self.leave(k)
-        self.settle()
-        return write(out, old)
-
-    def entry(self, k, v, out, out2, marks):
-        return (7, len(self.record(k)), 0, 0) if k in self.members else (8, k, 0, 0)
-
-    def occupied_append(self, k, v, out, out2, marks):
-        self.add(k, v)
-        return DONE
-
-    vacant_insert = occupied_append
-    occupied_insert = insert
-    occupied_remove_entry = remove
-
-    def pop(self, at):
-        if not self.pairs:
-            return NONE
-        k, v = self.pairs.pop(at)
-        self.settle()
-        return (6, k, v, int(k not in self.members))
-
-    def pop_front(self, k, v, out, out2, marks):
-        return self.pop(0)
-
-    def pop_back(self, k, v, out, out2, marks):
-        return self.pop(-1)
-
-    def retain(self, k, v, out, out2, marks):
-        self.pairs = [p for p, mark in zip(self.pairs, marks) if mark == 1]
-        self.settle()
-        return count(len(self.pairs))
-
-    def pack_to(self, k, v, out, out2, marks):
-        return DONE
-
-    def clear(self, k, v, out, out2, marks):
-        self.pairs = []
-        self.members = []
-        return DONE
-
-    def get(self, k, v, out, out2, marks):
-        return first(self.record(k))
-
-    def get_all(self, k, v, out, out2, marks):
-        return write(out, self.record(k))
-
-    def entry_len(self, k, v, out, out2, marks):
-        return count(len(self.record(k)))
-
-    def contains_key(self, k, v, out, out2, marks):
-        return (5, int(k in self.members), 0, 0)
-
-    def keys(self, k, v, out, out2, marks):
-        return write(out, self.members)
-
-    def keys_len(self, k, v, out, out2, marks):
-        return count(len(self.members))
-
-    def values_len(self, k, v, out, out2, marks):
-        return count(len(self.pairs))
-
-    def iter(self, k, v, out, out2, marks):
-        write(out, [k for k, _ in self.pairs])
-        return write(out2, [v for _, v in self.pairs])
-
-    def taken(self, k, v, out, out2, marks):
-        return count(self.taken_in)
 
 
 # --- lists of calls
@@ -592,10 +423,19 @@ def lists():
     yield from (most_rounds(), most_members(), both_full(), again())
 
 
+CRATE = "the crate's own answers"
+
+
+def store(name, text):
+    """Puts the text in front of the crate's part of a file."""
+    path = os.path.join(os.path.dirname(os.path.abspath(__file__)), "..", "crates", "stored_lists", name)
+    with open(path) as f:
+        stored = f.read()
+    with open(path, "w") as f:
+        f.write(text + stored[stored.index(CRATE) :])
+
+
 if __name__ == "__main__":
-    here = os.path.join(os.path.dirname(os.path.abspath(__file__)), "..", "crates", "edges")
     made = list(lists())
-    with open(os.path.join(here, "stdin"), "w") as f:
-        f.write("\n".join(calls.text() for calls in made) + "\n")
-    with open(os.path.join(here, "stdout"), "w") as f:
-        f.write("\n".join(calls.run() for calls in made))
+    store("stdin", "\n".join(calls.text() for calls in made) + "\n")
+    store("stdout", "\n".join(calls.run() for calls in made) + "\n")

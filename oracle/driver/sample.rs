@@ -1,4 +1,5 @@
-// A sample of the crate's answers: lists of calls as text, and what the port's program crate_answers must print of them. How both are written is
+// A sample of the crate's answers: lists of calls as text, and what the port's program stored_lists must print of them, after those of
+// tools/edges.py. How both are written is
 // in crates/tapes/specs; what is printed is made by the crate alone. The gate compares it with what the port prints.
 
 use crate::crate_map::CrateMap;
@@ -9,8 +10,10 @@ use std::fs;
 
 const LISTS: usize = 190;
 const SEED: u64 = 7;
-const INPUT: &str = "crates/crate_answers/stdin";
-const OUTPUT: &str = "crates/crate_answers/stdout";
+const INPUT: &str = "crates/stored_lists/stdin";
+const OUTPUT: &str = "crates/stored_lists/stdout";
+// The list that stands in front of the sample in both files. It has no call.
+const FIRST: &str = "the crate's own answers";
 
 // A list on a tape, each place of a slice with a number of its own and the answers filled with nines.
 fn tape_of(list: &[Call]) -> Tape {
@@ -52,7 +55,8 @@ fn output(name: &str, mut tape: Tape) -> String {
 // The text of all lists, what the crate gives for it, and how often each call is in them.
 fn made() -> (String, String, [usize; OPS.len()]) {
     let mut random = Random(SEED);
-    let (mut inputs, mut outputs, mut calls) = (Vec::new(), Vec::new(), [0; OPS.len()]);
+    let none = tape_of(&[]);
+    let (mut inputs, mut outputs, mut calls) = (vec![input(FIRST, &none)], vec![output(FIRST, none)], [0; OPS.len()]);
     for number in 1..=LISTS {
         let list = lists::list_for_the_crate(&mut random);
         list.iter().for_each(|call| calls[call.op as usize] += 1);
@@ -63,16 +67,23 @@ fn made() -> (String, String, [usize; OPS.len()]) {
     (inputs.concat(), outputs.join("\n"), calls)
 }
 
+// A file's part in front of the sample, and the sample.
+fn parts(path: &str) -> [String; 2] {
+    let stored = fs::read_to_string(path).expect("run it in the repository");
+    let at = stored.find(FIRST).expect("the sample's first list is there");
+    [stored[..at].to_string(), stored[at..].to_string()]
+}
+
 // Writes the stored sample anew, or compares it. Is it what the crate gives?
 pub fn run(write: bool) -> bool {
     let (input, output, calls) = made();
+    let ([edges_in, stored_in], [edges_out, stored_out]) = (parts(INPUT), parts(OUTPUT));
     if write {
-        fs::write(INPUT, &input).expect("run it in the repository");
-        fs::write(OUTPUT, &output).expect("run it in the repository");
+        fs::write(INPUT, edges_in + &input).expect("run it in the repository");
+        fs::write(OUTPUT, edges_out + &output).expect("run it in the repository");
         OPS.iter().for_each(|(op, name)| println!("{:24} {:>6}", name, calls[*op as usize]));
     }
-    let stored = |path| fs::read_to_string(path).expect("run it in the repository");
-    let same = stored(INPUT) == input && stored(OUTPUT) == output;
+    let same = write || stored_in == input && stored_out == output;
     let said = if same { "as stored" } else { "not as stored" };
     println!("sample: {} lists of {} calls, the crate's answers {}", LISTS, calls.iter().sum::<usize>(), said);
     same

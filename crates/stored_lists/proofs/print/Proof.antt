@@ -1,9 +1,9 @@
--- `edges::print` is safe. Assumes nothing.
+-- `stored_lists::print` is safe. Assumes nothing.
 use mathlib.Core.Path.{sym}
 use lib.Seq.{length-take-le}
 use borrow.Author.Needs.{needs}
-use Rattle.edges.proofs.print.Statement.{statement}
-use Rattle.edges.proofs.print.Tie as tie
+use Rattle.stored_lists.proofs.print.Statement.{statement}
+use Rattle.stored_lists.proofs.print.Tie as tie
 
 slice-aggregate-answer-lists : tie.Need-slice-aggregate-answer-lists
 slice-aggregate-answer-lists c = search needs
