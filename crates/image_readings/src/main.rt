@@ -13,6 +13,16 @@ use multimap::Values;
 // The longest image, and one byte more.
 const LONGEST: usize = 16393;
 
+fn main() {
+    let mut left: u64 = 100000;
+    while 0 < left {
+        if !turn() {
+            return;
+        }
+        left -= 1;
+    }
+}
+
 fn print_pair(member: u64, round: u64) {
     io::write_all(STDOUT_FILENO, b" ");
     io::print_decimal(STDOUT_FILENO, member);
@@ -155,14 +165,4 @@ fn turn() -> bool {
     }
     show_front(&bytes, length);
     true
-}
-
-fn main() {
-    let mut left: u64 = 100000;
-    while 0 < left {
-        if !turn() {
-            return;
-        }
-        left -= 1;
-    }
 }

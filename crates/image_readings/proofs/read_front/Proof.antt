@@ -1,9 +1,9 @@
--- `images::read_front` meets its contract: it is safe and ends. Assumes nothing.
+-- `image_readings::read_front` meets its contract: it is safe and ends. Assumes nothing.
 use mathlib.Core.Path.{sym}
 use borrow.Author.Needs.{needs}
 use lib.Seq.{length-take-le}
-use Rattle.images.proofs.read_front.Statement.{statement}
-use Rattle.images.proofs.read_front.Tie as tie
+use Rattle.image_readings.proofs.read_front.Statement.{statement}
+use Rattle.image_readings.proofs.read_front.Tie as tie
 
 returns : tie.Need-returns
 returns c = search needs

@@ -1,9 +1,9 @@
--- `images::show_front` meets its contract: it is safe and ends. Assumes nothing.
+-- `image_readings::show_front` meets its contract: it is safe and ends. Assumes nothing.
 use mathlib.Core.Path.{sym}
 use borrow.Author.Needs.{needs}
 use lib.Seq.{length-take-le}
-use Rattle.images.proofs.show_front.Statement.{statement}
-use Rattle.images.proofs.show_front.Tie as tie
+use Rattle.image_readings.proofs.show_front.Statement.{statement}
+use Rattle.image_readings.proofs.show_front.Tie as tie
 
 slice-aggregate-show : tie.Need-slice-aggregate-show
 slice-aggregate-show c = let s = c .before .before .before in sym (length-take-le (s .args .length) (s .args .bytes .now) (search needs))

@@ -1,10 +1,10 @@
--- `images::print_image` is safe and ends. Assumes nothing.
+-- `image_readings::print_image` is safe and ends. Assumes nothing.
 use Prim.Native.Nat.{_-_, _≤_}
 use mathlib.Core.Logic.{⊎-elim}
 use native.Mathlib.Omega.{arith}
 use borrow.Author.Needs.{needs}
-use Rattle.images.proofs.print_image.Statement.{statement}
-use Rattle.images.proofs.print_image.Tie as tie
+use Rattle.image_readings.proofs.print_image.Statement.{statement}
+use Rattle.image_readings.proofs.print_image.Tie as tie
 
 abbrev Inv-loop : tie.InvT-loop
 Inv-loop keys values key-index next-value members rounds s out wrong₀ i₀ t13 t14 wrong i = (i ≤ 16393) × (wrong ≤ i)

@@ -1,8 +1,8 @@
--- `images::print_members` is safe and ends. Assumes nothing.
+-- `image_readings::print_members` is safe and ends. Assumes nothing.
 use Prim.Native.Nat.{_-_, _≤_}
 use borrow.Author.Needs.{needs}
-use Rattle.images.proofs.print_members.Statement.{statement}
-use Rattle.images.proofs.print_members.Tie as tie
+use Rattle.image_readings.proofs.print_members.Statement.{statement}
+use Rattle.image_readings.proofs.print_members.Tie as tie
 
 abbrev Inv-loop : tie.InvT-loop
 Inv-loop keys next-key members first n i₀ t9 i = i ≤ 256

@@ -1,8 +1,8 @@
--- `images::print_pairs` is safe and ends. Assumes nothing.
+-- `image_readings::print_pairs` is safe and ends. Assumes nothing.
 use Prim.Native.Nat.{_-_, _≤_}
 use borrow.Author.Needs.{needs}
-use Rattle.images.proofs.print_pairs.Statement.{statement}
-use Rattle.images.proofs.print_pairs.Tie as tie
+use Rattle.image_readings.proofs.print_pairs.Statement.{statement}
+use Rattle.image_readings.proofs.print_pairs.Tie as tie
 
 abbrev Inv-loop : tie.InvT-loop
 Inv-loop keys values key-index next-value rounds first second n i₀ i = i ≤ 1024

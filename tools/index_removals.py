@@ -1,5 +1,5 @@
-# The expected output of crates/leaves, by a model written from document 01, module 1:
-#   python3 tools/leaves.py > crates/leaves/stdout
+# The expected output of crates/index_removals, by a model written from document 01, module 1:
+#   python3 tools/index_removals.py > crates/index_removals/stdout
 # The hash is taken from the text (basis, exclusive-or, prime, modulo 2^64). A table maps a place to the member in it. A search starts at
 # the hash modulo 512 and goes up by one, 511 to 0, until the member or an empty place. Removal is not the program's: the member's run, up
 # to the next empty place, is taken out, and those after it join again in the order of their places, which leaves no gap and no mark.

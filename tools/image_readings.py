@@ -1,6 +1,6 @@
 #!/usr/bin/env python3
-"""What crates/images reads and must print, by the format in document 01, module 7, and rows 11 to 14 of its table:
-`python3 tools/images.py`, which writes crates/images/stdin and crates/images/stdout.
+"""What crates/image_readings reads and must print, by the format in document 01, module 7, and rows 11 to 14 of its table:
+`python3 tools/image_readings.py`, which writes crates/image_readings/stdin and crates/image_readings/stdout.
 
 Each image stands after its length in two bytes. A line for each: `refused` and the number; or P as `k:v`, K in order of first appearance,
 T, the length of the image written again, and how many of its bytes, and of those past it, are wrong: none.
@@ -68,7 +68,7 @@ for _ in range(200):
     pairs = [(random.randrange(5), random.randrange(100)) for _ in range(random.randrange(9))]
     images.append(image(pairs, m=random.choice([None, None, None, 0, 1, 2, 3])))
 
-here = os.path.join(os.path.dirname(os.path.abspath(__file__)), "..", "crates", "images")
+here = os.path.join(os.path.dirname(os.path.abspath(__file__)), "..", "crates", "image_readings")
 with open(os.path.join(here, "stdin"), "wb") as f:
     f.write(b"".join(struct.pack("<H", len(s)) + s for s in images))
 with open(os.path.join(here, "stdout"), "w") as f:

@@ -1,8 +1,8 @@
--- `images::main` meets its contract: it is safe and ends. Assumes nothing.
+-- `image_readings::main` meets its contract: it is safe and ends. Assumes nothing.
 use Prim.Native.Nat.{_≤_}
 use borrow.Author.Needs.{needs}
-use Rattle.images.proofs.main.Statement.{statement}
-use Rattle.images.proofs.main.Tie as tie
+use Rattle.image_readings.proofs.main.Statement.{statement}
+use Rattle.image_readings.proofs.main.Tie as tie
 
 abbrev Inv-loop : tie.InvT-loop
 Inv-loop left₀ left = left ≤ 100000

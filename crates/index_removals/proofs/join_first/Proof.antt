@@ -1,8 +1,8 @@
--- `leaves::join_first` is safe and ends. Assumes nothing.
+-- `index_removals::join_first` is safe and ends. Assumes nothing.
 use Prim.Native.Nat.{_≤_, _-_}
 use borrow.Author.Needs.{needs}
-use Rattle.leaves.proofs.join_first.Statement.{statement}
-use Rattle.leaves.proofs.join_first.Tie as tie
+use Rattle.index_removals.proofs.join_first.Statement.{statement}
+use Rattle.index_removals.proofs.join_first.Tie as tie
 
 abbrev Inv-loop : tie.InvT-loop
 Inv-loop n out₀ i₀ out i = i ≤ n

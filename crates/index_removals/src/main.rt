@@ -1,7 +1,37 @@
-// Runs the leaves: hashes of some member numbers; then members whose places run across the end of the index, some of which leave; then 256
-// members, of which every third leaves. tools/leaves.py says what it must print.
+// Prints hashes of some member numbers; then members whose places run across the end of the index, some of which leave; then 256
+// members, of which every third leaves. tools/index_removals.py says what it must print.
 use index::Found;
 use index::KeyPlace;
+
+fn main() {
+    print_hash(0);
+    print_hash(1);
+    print_hash(7);
+    print_hash(255);
+    print_hash(256);
+    print_hash(65536);
+    print_hash(4294967295);
+    print_hash(4294967296);
+    print_hash(9223372036854775808);
+    print_hash(0x0123_4567_89ab_cdef);
+    print_hash(18446744073709551615);
+    let eight = join_first(none(), 8);
+    let lost = leave(eight, 412, false);
+    print_first(lost, 8);
+    print_agrees(lost);
+    let seven = leave(eight, 412, true);
+    print_first(seven, 8);
+    let again = join(seven, 412, 0);
+    print_first(again, 8);
+    let fewer = leave(again, 350, true);
+    print_first(fewer, 8);
+    let same = leave(fewer, 350, true);
+    print_first(same, 8);
+    let all = join_first(same, 256);
+    let some = leave_third(all);
+    print_first(some, 256);
+    print_agrees(some);
+}
 
 // The members' numbers, which member places are in use, and the index over them.
 struct Members {
@@ -148,34 +178,4 @@ fn print_first(m: Members, n: u16) {
         print_find(m, number(i));
         i += 1;
     }
-}
-
-fn main() {
-    print_hash(0);
-    print_hash(1);
-    print_hash(7);
-    print_hash(255);
-    print_hash(256);
-    print_hash(65536);
-    print_hash(4294967295);
-    print_hash(4294967296);
-    print_hash(9223372036854775808);
-    print_hash(0x0123_4567_89ab_cdef);
-    print_hash(18446744073709551615);
-    let eight = join_first(none(), 8);
-    let lost = leave(eight, 412, false);
-    print_first(lost, 8);
-    print_agrees(lost);
-    let seven = leave(eight, 412, true);
-    print_first(seven, 8);
-    let again = join(seven, 412, 0);
-    print_first(again, 8);
-    let fewer = leave(again, 350, true);
-    print_first(fewer, 8);
-    let same = leave(fewer, 350, true);
-    print_first(same, 8);
-    let all = join_first(same, 256);
-    let some = leave_third(all);
-    print_first(some, 256);
-    print_agrees(some);
 }
