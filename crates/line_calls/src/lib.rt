@@ -64,7 +64,7 @@ pub fn inserts(
 {
     let mut told = [0u64; 4];
     let mut old = [0u64; 1024];
-    inserting::om_insert_all(
+    inserting_all::om_insert_all(
         keys, lengths, next_key, previous_key, values, key_index, next_value, previous_value,
         next_index, previous_index, index, members, rounds, taken, k, v, &mut old, &mut told,
     );

@@ -39,7 +39,7 @@ pub fn call_below_8(
             keys, lengths, next_key, previous_key, values, key_index, next_value, previous_value,
             next_index, previous_index, index, members, rounds, taken, k, v, answer,
         ),
-        2 => inserting::om_insert_all(
+        2 => inserting_all::om_insert_all(
             keys, lengths, next_key, previous_key, values, key_index, next_value, previous_value,
             next_index, previous_index, index, members, rounds, taken, k, v, out, answer,
         ),

@@ -1,11 +1,11 @@
--- `inserting::om_insert_all` meets its contract. Assumes nothing.
+-- `inserting_all::om_insert_all` meets its contract. Assumes nothing.
 use mathlib.Core.Path.{sym, _∙_}
 use Rattle.answers.specs.Answers.{answerOf}
 use Rattle.multimap.specs.Arrays.{Arrays, arrays}
-use Rattle.inserting.proofs.InsertingAll.{told-short, told-known, told-new}
+use Rattle.inserting_all.proofs.InsertingAll.{told-short, told-known, told-new}
 use borrow.Author.Needs.{needs}
-use Rattle.inserting.proofs.om_insert_all.Statement.{statement}
-use Rattle.inserting.proofs.om_insert_all.Tie as tie
+use Rattle.inserting_all.proofs.om_insert_all.Statement.{statement}
+use Rattle.inserting_all.proofs.om_insert_all.Tie as tie
 
 abbrev given : tie.Start → Arrays
 given s =
