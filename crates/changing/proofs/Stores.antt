@@ -4,7 +4,7 @@ use mathlib.Core.Path.{_≡_, subst}
 use mathlib.Core.List.{List}
 use lib.ListN.{set}
 use Rattle.steps.specs.State.{maxTaken}
-use Rattle.index.specs.Table.{Removed}
+use Rattle.index.specs.Removal.{Removed}
 use Rattle.links.specs.Stores.{at, up, nextBack, previousBack, nextOut, previousOut, spot, taking, freeing}
 use Rattle.multimap.specs.Arrays.{Arrays, arrays}
 use Rattle.multimap.specs.Changes.{baseOf, withMember, withRound, withoutRound, Parted}

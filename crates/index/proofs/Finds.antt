@@ -113,7 +113,3 @@ module _ (t keys : List ℕ) (m : ℕ) where
   pub inside-at : (p n : ℕ) (k : KeyPlace) → searched t keys m ≡ At p k n → p < 512
   unfolding placeOf
   inside-at p n k e = subst (λ (r : Found). placeOf r < 512) e ended
-
-  pub inside-absent : (p n : ℕ) → searched t keys m ≡ Absent p n → p < 512
-  unfolding placeOf
-  inside-absent p n e = subst (λ (r : Found). placeOf r < 512) e ended

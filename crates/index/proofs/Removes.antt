@@ -1,13 +1,14 @@
 -- What `remove` achieves, from the answer of the search and what closing the gap gives.
 -- Assumes nothing.
-use mathlib.Core.Path.{_≡_, refl, sym, _∙_}
+use mathlib.Core.Path.{_≡_, refl, sym, ap, _∙_}
+use mathlib.Core.Bool.{true≢false}
 use mathlib.Core.List.{List}
 use Prim.Native.Nat.{ℕ, _<_}
 use lib.ListN.{getD}
 use Rattle.index.specs.declared.KeyPlace.{KeyPlace}
 use Rattle.index.specs.declared.Found.the-variants.{At, Absent}
-use Rattle.index.specs.Table.{Closed, Removed}
-use Rattle.index.specs.Search.{search as searched}
+use Rattle.index.specs.Removal.{Closed, Removed}
+use Rattle.index.specs.Search.{search as searched, isFound}
 use Rattle.index.proofs.Finds.{says-at, says-absent}
 
 module _ (t keys : List ℕ) (m : ℕ) where
@@ -16,11 +17,12 @@ module _ (t keys : List ℕ) (m : ℕ) where
   removed-none p n e =
       record {
         gone = λ ks k h i ek. absurd (says-absent t keys ks m h p n e .1 k i ek);
-        same = λ ks h no. refl;
+        same = λ q i f. refl;
       }
 
   -- found at p: the gap there is closed
   pub removed-at : (p n : ℕ) (k : KeyPlace) (t′ : List ℕ) → searched t keys m ≡ At p k n → Closed t keys p t′ → Removed t keys m t′
+  unfolding isFound
   removed-at p n k t′ e shut =
       record {
         gone =
@@ -29,5 +31,5 @@ module _ (t keys : List ℕ) (m : ℕ) where
             let here : getD t p 0 ≡ j = w .1 ∙ h .distinct (k .0) j (w .2) i (w .3 ∙ sym ej) in
             let full : getD t p 0 < 256 = rw here (h .place j i) in
             rw here at (shut ks h full);
-        same = λ ks h no. let w = says-at t keys ks m h p n k e in absurd (no (k .0) (w .2) (w .3));
+        same = λ q i f. absurd (true≢false (ap isFound (sym e ∙ f)));
       }

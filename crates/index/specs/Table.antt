@@ -57,12 +57,3 @@ unless false x xs = x ∷ xs
 unfoldable pub without : ℕ → List ℕ → List ℕ
 without k [] = []
 without k (x ∷ xs) = unless (eqb x k) x (without k xs)
-
--- t′ is t without what stands in the place at
-abbrev pub Closed : List ℕ → List ℕ → ℕ → List ℕ → Type 0
-Closed t keys at t′ = (ks : List ℕ) → Holds t keys ks → getD t at 0 < 256 → Holds t′ keys (without (getD t at 0) ks)
-
--- t′ is t without the member number m: where t holds it, t′ holds all others; where not, t′ is t
-pub record Removed (t keys : List ℕ) (m : ℕ) (t′ : List ℕ) : Type 0 where
-  pub gone : (ks : List ℕ) (k : ℕ) → Holds t keys ks → List·Memᴰ k ks → getD keys k 0 ≡ m → Holds t′ keys (without k ks)
-  pub same : (ks : List ℕ) → Holds t keys ks → ((k : ℕ) → List·Memᴰ k ks → getD keys k 0 ≡ m → ⊥) → t′ ≡ t

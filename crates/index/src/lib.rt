@@ -4,7 +4,8 @@ ghost use mathlib.Core.Path.{_≡_};
 ghost use mathlib.Core.List.{List};
 ghost use Prim.Native.Nat.{ℕ, _<_};
 ghost use lib.ListN.{set};
-ghost use Rattle.index.specs.Table.{emptyIndex, Holds, Closed, Removed, dist, home};
+ghost use Rattle.index.specs.Table.{emptyIndex, Holds, dist, home};
+ghost use Rattle.index.specs.Removal.{Closed, Removed};
 ghost use Rattle.index.specs.Agree.{Decides, FoundIn, FoundKey, PlaceOk, KeyOk, Lists};
 ghost use Rattle.index.specs.Search.{search as searched};
 
@@ -35,14 +36,6 @@ pub fn start(member: u64) -> usize
     ensures { λ r. ⌜ r ≡ home member ⌝ }
 {
     (fnv::hash(member) % 512) as usize
-}
-
-// How many steps up it is from a to b.
-fn steps(a: usize, b: usize) -> usize
-    requires { ⌜ (a < 512) × (b < 512) ⌝ }
-    ensures { λ r. ⌜ r ≡ dist a b ⌝ }
-{
-    (b + (512 - a)) % 512
 }
 
 // The search for a member.
@@ -76,6 +69,48 @@ pub fn insert(index: &mut [u16; 512], at: usize, key: KeyPlace)
     }
 }
 
+// A member is taken out of the index, and the gap closed. A number that the search does not find changes nothing.
+pub fn remove(index: &mut [u16; 512], keys: &[u64; 256], member: u64)
+    ensures { λ _. ⌜ Removed (now (index .entry)) (now (keys .entry)) member (now (index .exit)) ⌝ }
+{
+    let found = find(index, keys, member);
+    let Found::At(at, _, _) = found else {
+        return;
+    };
+    close(index, keys, at);
+}
+
+// Whether the index holds exactly the member places in use.
+pub fn agrees<'a>(index: &'a [u16; 512], keys: &'a [u64; 256], used: &'a [bool; 256]) -> bool
+    ensures { λ r. ⌜ ((ks : List ℕ) → Lists (now (used .entry)) ks → Decides r (Holds (now (index .entry)) (now (keys .entry)) ks)) ⌝ }
+{
+    let places: &[u16] = index;
+    let end = places.len();
+    let mut at: usize = 0;
+    while at < end {
+        if !place_ok(index, keys, used, at) {
+            return false;
+        }
+        at += 1;
+    }
+    let mut key: u16 = 0;
+    while key < KEYS {
+        if !key_ok(index, keys, used, key) {
+            return false;
+        }
+        key += 1;
+    }
+    true
+}
+
+// How many steps up it is from a to b.
+fn steps(a: usize, b: usize) -> usize
+    requires { ⌜ (a < 512) × (b < 512) ⌝ }
+    ensures { λ r. ⌜ r ≡ dist a b ⌝ }
+{
+    (b + (512 - a)) % 512
+}
+
 // What stands in the place `at` is taken out and the gap closed: each later member whose search passes it moves down into it.
 fn close(index: &mut [u16; 512], keys: &[u64; 256], at: usize)
     requires { ⌜ at < 512 ⌝ }
@@ -98,17 +133,6 @@ fn close(index: &mut [u16; 512], keys: &[u64; 256], at: usize)
         next = (next + 1) % 512;
         looked += 1;
     }
-}
-
-// A member is taken out of the index, and the gap closed. A member that is not there changes nothing.
-pub fn remove(index: &mut [u16; 512], keys: &[u64; 256], member: u64)
-    ensures { λ _. ⌜ Removed (now (index .entry)) (now (keys .entry)) member (now (index .exit)) ⌝ }
-{
-    let found = find(index, keys, member);
-    let Found::At(at, _, _) = found else {
-        return;
-    };
-    close(index, keys, at);
 }
 
 // Whether a search ended in the place `at` with what it looked for.
@@ -174,27 +198,4 @@ fn key_ok<'a>(index: &'a [u16; 512], keys: &'a [u64; 256], used: &'a [bool; 256]
     } else {
         true
     }
-}
-
-// Whether the index holds exactly the member places in use.
-pub fn agrees<'a>(index: &'a [u16; 512], keys: &'a [u64; 256], used: &'a [bool; 256]) -> bool
-    ensures { λ r. ⌜ ((ks : List ℕ) → Lists (now (used .entry)) ks → Decides r (Holds (now (index .entry)) (now (keys .entry)) ks)) ⌝ }
-{
-    let places: &[u16] = index;
-    let end = places.len();
-    let mut at: usize = 0;
-    while at < end {
-        if !place_ok(index, keys, used, at) {
-            return false;
-        }
-        at += 1;
-    }
-    let mut key: u16 = 0;
-    while key < KEYS {
-        if !key_ok(index, keys, used, key) {
-            return false;
-        }
-        key += 1;
-    }
-    true
 }

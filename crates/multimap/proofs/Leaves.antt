@@ -8,7 +8,7 @@ use native.Mathlib.Omega.{arith}
 use borrow.Author.Tests.{ltb-true, ltb-false}
 use lib.Dec.{ltb}
 use Rattle.steps.specs.State.{has}
-use Rattle.steps.specs.Call.{Call, none, popped, Answer}
+use Rattle.steps.specs.Call.{none, popped, Answer}
 use Rattle.steps.specs.Coded.{coded}
 use Rattle.steps.specs.Step.{say}
 use Rattle.steps.specs.Told.{Told}
@@ -20,7 +20,7 @@ use Rattle.multimap.specs.Map.{pairAt, roundsOf}
 use Rattle.multimap.specs.Changes.{withoutRound, withoutMember, Parted, Left}
 use Rattle.multimap.specs.WellLinked.{WellLinked, linked}
 use Rattle.multimap.specs.Strike.{RoundPlace}
-use Rattle.multimap.specs.Popping.{Popped, APair, poppedOf, PoppedAt, rest, popOf, PairGone}
+use Rattle.multimap.specs.Popping.{PoppedAt, rest, popOf, PairGone}
 use Rattle.multimap.proofs.Pops.{pop-none, pop-round, pop-popped, stored-one, stored-both, round-struck}
 
 -- ---- the stores
@@ -55,7 +55,7 @@ module _ (a : Arrays) (g : WellLinked a) (x : ℕ) (i : 0 < tally x (order (roun
   abbrev key : ℕ
   key = at (a .«key_index») x
 
-  gone-so : (b : Bool) (r : Arrays) → PoppedAt a x (APair (at (a .keys) key) (at (a .values) x) b) r → b ≡ not (has (pairAt a x .key) (rest a x))
+  gone-so : (b : Bool) (r : Arrays) → PoppedAt a x (popped (at (a .keys) key) (at (a .values) x) b) r → b ≡ not (has (pairAt a x .key) (rest a x))
   gone-so b r p = let e = p .answer in cc
 
   pub pair-gone : (gone : Bool) (r : Arrays) → Left a x gone r → PairGone a x gone r
@@ -64,8 +64,8 @@ module _ (a : Arrays) (g : WellLinked a) (x : ℕ) (i : 0 < tally x (order (roun
       one : 1 < at (a .lengths) (at (a .«key_index») x) → PairGone a x gone r
       one h =
           let e : r ≡ withoutRound a x = d .stays h .1 in
-          let p : PoppedAt a x (APair (at (a .keys) key) (at (a .values) x) false) r =
-          subst (PoppedAt a x (APair (at (a .keys) key) (at (a .values) x) false)) (sym e) (stored-one a (g .sized) x here h) in
+          let p : PoppedAt a x (popped (at (a .keys) key) (at (a .values) x) false) r =
+          subst (PoppedAt a x (popped (at (a .keys) key) (at (a .values) x) false)) (sym e) (stored-one a (g .sized) x here h) in
           record {
             linked = p .linked;
             state = p .state;
@@ -79,8 +79,8 @@ module _ (a : Arrays) (g : WellLinked a) (x : ℕ) (i : 0 < tally x (order (roun
       both h =
           let w : Parted (withoutRound a x) key r = d .goes h .1 in
           let e : r ≡ withoutMember (withoutRound a x) key (r .index) = w .rest in
-          let p : PoppedAt a x (APair (at (a .keys) key) (at (a .values) x) true) r =
-          subst (PoppedAt a x (APair (at (a .keys) key) (at (a .values) x) true)) (sym e) (stored-both a (g .sized) x here h (r .index) (w .removed)) in
+          let p : PoppedAt a x (popped (at (a .keys) key) (at (a .values) x) true) r =
+          subst (PoppedAt a x (popped (at (a .keys) key) (at (a .values) x) true)) (sym e) (stored-both a (g .sized) x here h (r .index) (w .removed)) in
           record {
             linked = p .linked;
             state = p .state;
@@ -102,9 +102,9 @@ module _ (b : Bool) (a : Arrays) (g : WellLinked a) where
         → (r : Arrays) → Left a x gone r → (ans : List ℕ) → ans ≡ coded (popped member round gone) → Told linked (popOf b) a r [] [] ans
     told-pop {gone = gone} k-is member-is round-is r d ans e =
         let w : PairGone a x gone r = pair-gone a g x (pop-round a g some x b x-is .inside) gone r d in
-        let p : Popped = APair (pairAt a x .key) (pairAt a x .value) (not (has (pairAt a x .key) (rest a x))) in
+        let p : Answer = popped (pairAt a x .key) (pairAt a x .value) (not (has (pairAt a x .key) (rest a x))) in
         record {
-          outcome = say (poppedOf p);
+          outcome = say p;
           does = pop-popped a g some x b x-is p r (record { answer = refl; state = w .state; linked = w .linked });
           out-is = refl;
           out2-is = refl;

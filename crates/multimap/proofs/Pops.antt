@@ -3,8 +3,8 @@ use Prim.Native.Nat.{ℕ, suc, _-_, _≤_, _<_}
 use mathlib.Core.Path.{_≡_, refl, sym, ap, _∙_, subst, fun-ext}
 use mathlib.Core.Logic.{_≢_, ⊎-elim}
 use mathlib.Core.Bool.{Bool, true, false, cond, not, _&&_, _||_, Bool·not-not}
-use mathlib.Core.List.{List, [], _∷_, _++_, map, append-nil, dropLast, head?, tail}
-use mathlib.Core.Option.{Option, some, none as nothing}
+use mathlib.Core.List.{List, [], _∷_, _++_, map, append-nil, dropLast}
+use mathlib.Core.Option.{some}
 use native.Mathlib.Omega.{arith}
 use borrow.Author.Tests.{eq-eqb, ne-eqb, eqb-true}
 use lib.Dec.{eqb}
@@ -12,12 +12,9 @@ use lib.ListN.{length}
 use lib.Seq.{getD-set-same}
 use Rattle.steps.specs.Lists.{filter, last?}
 use Rattle.steps.specs.State.{State, Pair, has, of, leave, remove-pair, keep as keeping}
-use Rattle.steps.specs.Call.{Call, popped, none, pop-front, pop-back}
-use Rattle.steps.specs.Step.{step, checks, act, say, pop}
+use Rattle.steps.specs.Call.{Call, Answer, popped, none, pop-front, pop-back, packs}
+use Rattle.steps.specs.Step.{step, checks, act, say}
 use Rattle.steps.specs.Trace.{Does}
-use Rattle.steps.specs.Coded.{coded}
-use Rattle.steps.specs.Told.{Told}
-use Rattle.steps.specs.Call.{packs}
 use Rattle.steps.proofs.Doing.{does-stay, does-change}
 use Rattle.steps.proofs.Filter.{filter-fuse, any-append}
 use Rattle.links.specs.Route.{tally, keep, without, strip, walk}
@@ -26,14 +23,14 @@ use Rattle.links.specs.Links.{recordIn, recordOf}
 use Rattle.links.proofs.Routes.{same-or-not, keep-all, keep-inside, tally-same, tally-append, Split, split-at, route-end}
 use Rattle.links.proofs.Lists.{order-without, length-order}
 use Rattle.links.proofs.Bare.{bare-order}
-use Rattle.index.specs.Table.{Removed}
+use Rattle.index.specs.Removal.{Removed}
 use Rattle.multimap.specs.Map.{at, pairAt, pairs, members, roundsOf, membersOf, linksOf, stateOf}
 use Rattle.multimap.specs.WellLinked.{WellLinked, linked}
 use Rattle.multimap.specs.Arrays.{Arrays, Sized}
 use Rattle.multimap.proofs.Stores.{map-append}
 use Rattle.multimap.specs.Strike.{Stretch, Struck, RoundPlace}
 use Rattle.multimap.specs.Sweep.{idle, Sound, Sweepable, Swept}
-use Rattle.multimap.specs.Popping.{Popped, APair, poppedOf, popOf, rest, PoppedAt}
+use Rattle.multimap.specs.Popping.{popOf, rest, PoppedAt}
 use Rattle.multimap.proofs.Strikes as S
 use Rattle.multimap.proofs.Sweeps as W
 use Rattle.multimap.proofs.Leaving.{has-size, member-still, length-now, struck-sound, left-linked, left-state, all-have, leaves-one}
@@ -129,7 +126,7 @@ module _ (m : Arrays) (x : ℕ) (h : RoundPlace m x) where
 
     -- whichever members have left, so that those with a round are there
     module _ (us : List ℕ) (r : Arrays) (w : Swept o us r) (leavers : strip us (order (membersOf o)) ≡ keep (λ j. not (eqb (at (o .lengths) j) 0)) (order (membersOf o))) where
-      taken-out : (b : Bool) → eqb (at (o .lengths) place) 0 ≡ b → PoppedAt m x (APair (at (m .keys) place) (at (m .values) x) b) r
+      taken-out : (b : Bool) → eqb (at (o .lengths) place) 0 ≡ b → PoppedAt m x (popped (at (m .keys) place) (at (m .values) x) b) r
       taken-out b e =
           record {
             answer = ap (popped (at (m .keys) place) (at (m .values) x)) (sym e ∙ gone);
@@ -141,11 +138,11 @@ module _ (m : Arrays) (x : ℕ) (h : RoundPlace m x) where
 
     -- it was the member's last round
     pub popped-last : at (o .lengths) (at (m .«key_index») x) ≡ 0 → (r : Arrays) → Swept o (idle o (at (m .«key_index») x) 1) r
-        → PoppedAt m x (APair (at (m .keys) (at (m .«key_index») x)) (at (m .values) x) true) r
+        → PoppedAt m x (popped (at (m .keys) (at (m .«key_index») x)) (at (m .values) x) true) r
     popped-last e r w = taken-out (idle o place 1) r w (leaves-one (at (o .lengths)) place (order (membersOf o)) others) true (eq-eqb (at (o .lengths) place) 0 e)
 
     -- it was not: nobody leaves
-    pub popped-one : at (o .lengths) (at (m .«key_index») x) ≢ 0 → PoppedAt m x (APair (at (m .keys) (at (m .«key_index») x)) (at (m .values) x) false) o
+    pub popped-one : at (o .lengths) (at (m .«key_index») x) ≢ 0 → PoppedAt m x (popped (at (m .keys) (at (m .«key_index») x)) (at (m .values) x) false) o
     popped-one e =
         let stays : Swept o [] o =
         record {
@@ -179,7 +176,7 @@ module _ (m : Arrays) (z : Sized m) (x : ℕ) (h : RoundPlace m x) where
   size-now = getD-set-same (m .lengths) k (at (m .lengths) k - 1) 0 (rw (z .lengths) (round-bounds .key))
 
   -- its member has more
-  pub stored-one : 1 < at (m .lengths) (at (m .«key_index») x) → PoppedAt m x (APair (at (m .keys) (at (m .«key_index») x)) (at (m .values) x) false) taken
+  pub stored-one : 1 < at (m .lengths) (at (m .«key_index») x) → PoppedAt m x (popped (at (m .keys) (at (m .«key_index») x)) (at (m .values) x) false) taken
   stored-one e = popped-one m x h taken round-struck (λ u. omega (arith, size-now, u, e))
 
   pub now-sized : Sized taken
@@ -190,11 +187,6 @@ module _ (m : Arrays) (z : Sized m) (x : ℕ) (h : RoundPlace m x) where
 
   pub k-in : 0 < tally k (order (membersOf m))
   k-in = place-in m x h
-
-  pub member-bounds : W.Bounds m (at (m .«key_index») x)
-  member-bounds =
-      let b = W.bounds taken now-sized now-sound k k-in in
-      record { place = b .place; next = b .next; prev = b .prev; some = b .some }
 
   -- and the member, with its last round
   module _ (e : at (m .lengths) (at (m .«key_index») x) ≤ 1) (closed : List ℕ) (shut : Removed (m .index) (m .keys) (at (m .keys) (at (m .«key_index») x)) closed) where
@@ -211,7 +203,7 @@ module _ (m : Arrays) (z : Sized m) (x : ℕ) (h : RoundPlace m x) where
         W.turned-all taken k 1 w 1 _ taken-both
         (W.turned-left taken k 1 w 0 k taken t (omega arith) none-left closed (W.shut-gap taken taken (t .kept) now-sound k k-in closed shut)) (omega arith)
 
-    pub stored-both : PoppedAt m x (APair (at (m .keys) (at (m .«key_index») x)) (at (m .values) x) true) taken-both
+    pub stored-both : PoppedAt m x (popped (at (m .keys) (at (m .«key_index») x)) (at (m .values) x) true) taken-both
     stored-both = popped-last m x h taken round-struck none-left taken-both both-swept
 
 -- ---- the steps
@@ -256,7 +248,7 @@ module _ (m : Arrays) (g : WellLinked m) where
 
   -- the place x, where the call's step takes its pair
   popped-so : (c : Call) → packs c ≡ false → (x : ℕ) → step c (stateOf m) ≡ (say (popped (pairAt m x .key) (pairAt m x .value) (not (has (pairAt m x .key) (rest m x)))), remove-pair (pairAt m x) (rest m x) (stateOf m))
-      → (a : Popped) (r : Arrays) → PoppedAt m x a r → Does linked c m (say (poppedOf a)) r
+      → (a : Answer) (r : Arrays) → PoppedAt m x a r → Does linked c m (say a) r
   popped-so c k x e a r p =
       subst (λ y. Does linked c m (say y) r) (sym (p .answer))
       (does-change linked c m _ (remove-pair (pairAt m x) (rest m x) (stateOf m)) r k refl e (p .state) (p .linked))
@@ -281,7 +273,7 @@ module _ (m : Arrays) (g : WellLinked m) where
     pub front-round : RoundPlace m (at (m .«next_value») 1024)
     front-round = inside [] ys x front
 
-    pub front-popped : (a : Popped) (r : Arrays) → PoppedAt m (at (m .«next_value») 1024) a r → Does linked pop-front m (say (poppedOf a)) r
+    pub front-popped : (a : Answer) (r : Arrays) → PoppedAt m (at (m .«next_value») 1024) a r → Does linked pop-front m (say a) r
     front-popped = popped-so pop-front refl x (step-front (stateOf m) (pairAt m x) (rest m x) (ap (map (pairAt m)) (front ∙ ap (λ (l : List ℕ). x ∷ l) (sym (order-without (roundsOf m) (g .chained .rounds) [] x ys front)))))
 
     -- the last
@@ -294,7 +286,7 @@ module _ (m : Arrays) (g : WellLinked m) where
     pub back-round : RoundPlace m (at (m .«previous_value») 1024)
     back-round = inside (back .0) [] z (back .1)
 
-    pub back-popped : (a : Popped) (r : Arrays) → PoppedAt m (at (m .«previous_value») 1024) a r → Does linked pop-back m (say (poppedOf a)) r
+    pub back-popped : (a : Answer) (r : Arrays) → PoppedAt m (at (m .«previous_value») 1024) a r → Does linked pop-back m (say a) r
     back-popped =
         popped-so pop-back refl z
         (step-back (stateOf m) (pairAt m z) (rest m z)
@@ -312,6 +304,6 @@ module _ (m : Arrays) (g : WellLinked m) where
     pop-round false i = rw i (back-round m g e)
 
     pub pop-popped : (b : Bool) → x ≡ cond b (at (m .«next_value») 1024) (at (m .«previous_value») 1024)
-        → (a : Popped) (r : Arrays) → PoppedAt m x a r → Does linked (popOf b) m (say (poppedOf a)) r
+        → (a : Answer) (r : Arrays) → PoppedAt m x a r → Does linked (popOf b) m (say a) r
     pop-popped true i a r p = front-popped m g e a r (subst (λ (y : ℕ). PoppedAt m y a r) i p)
     pop-popped false i a r p = back-popped m g e a r (subst (λ (y : ℕ). PoppedAt m y a r) i p)

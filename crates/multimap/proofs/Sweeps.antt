@@ -8,14 +8,15 @@ use native.Mathlib.Omega.{arith}
 use native.Mathlib.Numerals.{add-one}
 use borrow.Author.Tests.{eq-eqb, ne-eqb}
 use lib.Dec.{eqb}
-use lib.ListN.{length, getD, set, drop, length-set, drop-of-length-le}
+use lib.ListN.{length, getD, drop, length-set, drop-of-length-le}
 use Rattle.links.specs.Route.{pick, tally, keep, without, strip, Route}
 use Rattle.links.specs.Places.{order}
 use Rattle.links.specs.Links.{Links, recordIn, Chained, parted}
 use Rattle.links.proofs.Routes.{tally-append, tally-same, tally-in, length-keep, route-split, route-start}
 use Rattle.links.proofs.Lists.{length-walk, length-order, order-without, in-array, at-most-root, next-in, prev-in}
 use Rattle.links.proofs.Chains.{of-without, in-without, parted-chained, parted-order}
-use Rattle.index.specs.Table.{Holds, Removed}
+use Rattle.index.specs.Table.{Holds}
+use Rattle.index.specs.Removal.{Removed}
 use Rattle.index.specs.Table as T
 use Rattle.index.proofs.Table.{relist}
 use Rattle.index.proofs.Without.{without-mem, mem-without}

@@ -6,7 +6,7 @@ use mathlib.Core.Bool.{Bool, true, false}
 use mathlib.Core.List.{List}
 use lib.ListN.{set}
 use Rattle.steps.specs.State.{maxTaken}
-use Rattle.index.specs.Table.{Removed}
+use Rattle.index.specs.Removal.{Removed}
 use Rattle.links.specs.Stores.{at, up, nextBack, previousBack, nextOut, previousOut, spot, taking, freeing}
 use Rattle.multimap.specs.Arrays.{Arrays}
 

@@ -4,21 +4,12 @@ use mathlib.Core.Path.{_≡_}
 use mathlib.Core.Bool.{Bool, true, false, not}
 use mathlib.Core.List.{List, map}
 use Rattle.steps.specs.State.{Pair, has, remove-pair}
-use Rattle.steps.specs.Call.{Call, pop-front, pop-back, Answer, none, popped}
+use Rattle.steps.specs.Call.{Call, pop-front, pop-back, Answer, popped}
 use Rattle.links.specs.Route.{without}
 use Rattle.links.specs.Places.{order}
 use Rattle.multimap.specs.Map.{pairAt, roundsOf, stateOf}
 use Rattle.multimap.specs.WellLinked.{WellLinked}
 use Rattle.multimap.specs.Arrays.{Arrays}
-
--- what a pop answers
-pub data Popped : Type 0 where
-  Nothing : Popped
-  APair : ℕ → ℕ → Bool → Popped
-
-abbrev pub poppedOf : Popped → Answer
-poppedOf Nothing = none
-poppedOf (APair k v gone) = popped k v gone
 
 -- the pop from the front, or from the back
 abbrev pub popOf : Bool → Call
@@ -30,8 +21,8 @@ abbrev pub rest : Arrays → ℕ → List Pair
 rest m x = map (pairAt m) (without x (order (roundsOf m)))
 
 -- r is m without the round in the place x, and a tells its member, the round and whether the member left
-pub record PoppedAt (m : Arrays) (x : ℕ) (a : Popped) (r : Arrays) : Type 0 where
-  pub answer : poppedOf a ≡ popped (pairAt m x .key) (pairAt m x .value) (not (has (pairAt m x .key) (rest m x)))
+pub record PoppedAt (m : Arrays) (x : ℕ) (a : Answer) (r : Arrays) : Type 0 where
+  pub answer : a ≡ popped (pairAt m x .key) (pairAt m x .value) (not (has (pairAt m x .key) (rest m x)))
   pub state : stateOf r ≡ remove-pair (pairAt m x) (rest m x) (stateOf m)
   pub linked : WellLinked r
 
