@@ -3,7 +3,6 @@ use Prim.Native.Nat.{ℕ}
 use mathlib.Core.Path.{_≡_, refl, sym, ap, subst, _∙_}
 use mathlib.Core.Bool.{Bool, true, false, cond, true≢false}
 use mathlib.Core.List.{List, [], _∷_}
-use native.Mathlib.Omega.{arith}
 use lib.ListN.{getD}
 use lib.Dec.{eqb}
 use borrow.Author.Tests.{eq-eqb, ne-eqb}
@@ -15,7 +14,7 @@ use Rattle.steps.specs.Call.{Call, Outcome, packs, lent}
 use Rattle.steps.specs.Step.{step, checks, act, say, refusing, entryOf}
 use Rattle.steps.specs.Accounting.{isRefused}
 use Rattle.steps.specs.Coded.{coded, decoded}
-use Rattle.steps.specs.Trace.{Kind, Does}
+use Rattle.steps.specs.Trace.{Kind}
 use Rattle.steps.specs.Told.{Told}
 use Rattle.steps.proofs.Coded.{decoded-coded}
 use Rattle.steps.proofs.Doing.{does-refuse, does-as}

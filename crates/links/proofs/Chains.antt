@@ -11,7 +11,7 @@ use lib.ListN.{length, length-append}
 use Rattle.links.specs.Route.{pick, bit, tally, without, Route}
 use Rattle.links.specs.Places.{put, order, vacancy}
 use Rattle.links.specs.Links.{Links, base, recordOf, recordIn, Chained, joined, added, struck, parted}
-use Rattle.links.proofs.Routes.{same-or-not, tally-in, tally-hit, tally-same, tally-other, tally-append, Once, Split, split-at, keep-append, keep-none, keep-same, tally-keep, length-keep}
+use Rattle.links.proofs.Routes.{same-or-not, tally-in, tally-hit, tally-other, tally-append, Once, Split, split-at, keep-append, keep-none, keep-same, tally-keep, length-keep}
 use Rattle.links.proofs.Routes.{route-next, route-prev, route-last, route-frame}
 use Rattle.links.proofs.Puts.{put-hit, put-miss, put-first, put-neither, cut-route, push-route, last-old}
 use Rattle.links.proofs.Lists.{order-once, in-array, vacancy-fits, vacancy-new, pushed-order, pushed-linked, cut-linked, split-cut, cut-order}
@@ -297,9 +297,6 @@ module _ (c : Links) (g : Chained c) (room : c .members .len < c .members .root)
 
   pub joined-in : (j : ℕ) → 0 < tally j (order (c .members)) → 0 < tally j (order (joined c .members))
   joined-in j i = omega (arith, ap (tally j) joined-order, tally-append j ks (k ∷ []))
-
-  pub joined-self : 0 < tally (vacancy (c .members)) (order (joined c .members))
-  joined-self = omega (arith, ap (tally k) joined-order, tally-append k ks (k ∷ []), tally-same k [])
 
   joined-old : (j : ℕ) → j ≢ k → 0 < tally j (order (b .members)) → 0 < tally j ks
   joined-old j e i = omega (arith, ap (tally j) joined-order, tally-append j ks (k ∷ []), tally-other j k [] e)

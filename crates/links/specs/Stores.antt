@@ -1,6 +1,5 @@
 -- What the functions on lists of places leave in the arrays that they are lent, whatever these hold: a store past the end changes nothing.
 use Prim.Native.Nat.{ℕ, _+_, _-_, min}
-use mathlib.Core.Path.{_≡_}
 use mathlib.Core.List.{List, [], _∷_}
 use lib.Dec.{eqb}
 use lib.ListN.{getD, set}

@@ -1,14 +1,12 @@
 -- The stores that put a member or a round at the back, and what they make of the links. Assumes nothing.
-use Prim.Native.Nat.{ℕ, _+_, _≤_, _<_, min}
+use Prim.Native.Nat.{ℕ, _+_, _≤_, _<_}
 use mathlib.Core.Path.{_≡_, refl, ap, _∙_}
-use mathlib.Core.List.{List}
 use native.Mathlib.Omega.{arith}
 use lib.Dec.{eqb}
 use lib.ListN.{set, length-set}
 use Rattle.links.specs.Stores.{up, spot}
 use Rattle.links.specs.Route.{pick}
-use Rattle.links.specs.Places.{put, Places, vacancy, Linked}
-use Rattle.links.specs.Links.{Links, Chained, added, joined}
+use Rattle.links.specs.Links.{added, joined}
 use Rattle.multimap.specs.Arrays.{Arrays, Sized}
 use Rattle.multimap.specs.Changes.{baseOf, withMember, withRound}
 use Rattle.multimap.specs.Map.{at, roundsOf, membersOf, linksOf}

@@ -1,27 +1,27 @@
 -- The rounds of a member place are all struck. Assumes nothing.
 use Prim.Native.Nat.{ℕ, _+_, _<_}
-use mathlib.Core.Path.{_≡_, refl, sym, ap, _∙_, subst}
+use mathlib.Core.Path.{_≡_, refl, sym, ap, _∙_}
 use mathlib.Core.Logic.{_≢_}
 use mathlib.Core.Bool.{true, not}
 use mathlib.Core.List.{List, [], map, append-nil}
 use native.Mathlib.Omega.{arith}
-use borrow.Author.Tests.{eq-eqb, ne-eqb, eqb-true}
+use borrow.Author.Tests.{ne-eqb, eqb-true}
 use lib.Dec.{eqb}
 use lib.ListN.{length, length-map}
 use Rattle.steps.specs.Lists.{filter}
-use Rattle.steps.specs.State.{of, rounds, others, leave}
+use Rattle.steps.specs.State.{of, rounds, others}
 use Rattle.steps.proofs.Filter.{length-split}
-use Rattle.links.specs.Route.{tally, keep, without, strip}
+use Rattle.links.specs.Route.{keep, strip}
 use Rattle.links.specs.Places.{order}
 use Rattle.links.specs.Links.{recordIn, recordOf}
-use Rattle.links.proofs.Routes.{Split, split-at, keep-same, keep-inside}
+use Rattle.links.proofs.Routes.{keep-same, keep-inside}
 use Rattle.links.proofs.Strips.{keep-neither, strip-those}
-use Rattle.links.proofs.Chains.{in-record, of-without}
-use Rattle.multimap.specs.Map.{at, pairAt, pairs, members, roundsOf, membersOf, linksOf}
+use Rattle.links.proofs.Chains.{in-record}
+use Rattle.multimap.specs.Map.{at, pairAt, pairs, members, roundsOf, linksOf}
 use Rattle.multimap.specs.Arrays.{Arrays}
 use Rattle.multimap.specs.WellLinked.{WellLinked}
 use Rattle.multimap.proofs.Stores.{length-pairs}
-use Rattle.multimap.proofs.Records.{Member, member-at, own-round, same-number, head-in, filter-map}
+use Rattle.multimap.proofs.Records.{Member, member-at, own-round, head-in, filter-map}
 use Rattle.multimap.specs.Strike.{chosen, visited, Stretch, Struck, MemberPlace, Emptied}
 use Rattle.multimap.proofs.Strikes.{chosen-all}
 

@@ -1,20 +1,19 @@
 -- The step of `insert`. Assumes nothing.
-use Prim.Native.Nat.{ℕ, _+_, _≤_, _<_}
-use mathlib.Core.Path.{_≡_, refl, sym, ap, _∙_}
+use Prim.Native.Nat.{ℕ, _+_}
+use mathlib.Core.Path.{_≡_, refl, ap, _∙_}
 use mathlib.Core.Bool.{true, false}
 use mathlib.Core.List.{List}
 use Rattle.steps.specs.State as St
-use Rattle.steps.specs.State.{State, rounds, others, add, replace, full, crowded, maxRounds, maxMembers}
-use Rattle.steps.specs.Call.{refused, none, round, insert}
+use Rattle.steps.specs.State.{State, rounds, others, replace, full, crowded}
+use Rattle.steps.specs.Call.{refused, round, insert}
 use Rattle.steps.specs.Step.{step, checks, act, say, first}
 use Rattle.steps.specs.Trace.{Does}
-use Rattle.steps.proofs.Doing.{does-refuse, does-change}
+use Rattle.steps.proofs.Doing.{does-change}
 use Rattle.multimap.specs.Map.{at, pairs, stateOf}
 use Rattle.multimap.specs.WellLinked.{WellLinked, linked}
 use Rattle.multimap.specs.Arrays.{Arrays}
-use Rattle.multimap.proofs.States.{Unknown, is-full, not-full, is-crowded, not-crowded}
 use Rattle.multimap.proofs.Records.{Member, first-round}
-use Rattle.multimap.specs.Adding.{AddedTo, Posted}
+use Rattle.multimap.specs.Adding.{AddedTo}
 use Rattle.multimap.specs.Strike.{Emptied}
 
 -- ---- the steps, case by case
@@ -57,23 +56,3 @@ module _ (k v : ℕ) (m : Arrays) (g : WellLinked m) where
           let e : first (rounds k (pairs m)) ≡ round (at (m .values) h) = first-round m g k x u in
           does-change linked (insert k v) m (say (round (at (m .values) h))) (replace k v (stateOf m)) r refl refl
           (step-known k v (stateOf m) (u .present) ∙ rw e) state (a .linked)
-
-  -- no member has it
-  module _ (p : ℕ) (u : Unknown m k p) where
-    replaced : replace k v (stateOf m) ≡ add k v (stateOf m)
-    replaced = rw (u .nobody .others)
-
-    module _ (full : maxRounds ≤ at (m .rounds) 0) where
-      pub insert-full : Does linked (insert k v) m (say (refused 1)) m
-      insert-full = does-refuse linked (insert k v) m 1 g (step-full k v (stateOf m) (u .nobody .absent) (is-full m full))
-
-    module _ (room : at (m .rounds) 0 < maxRounds) where
-      module _ (many : maxMembers ≤ at (m .members) 0) where
-        pub insert-crowded : Does linked (insert k v) m (say (refused 2)) m
-        insert-crowded = does-refuse linked (insert k v) m 2 g (step-crowded k v (stateOf m) (u .nobody .absent) (not-full m room) (is-crowded m many))
-
-      module _ (spare : at (m .members) 0 < maxMembers) (r : Arrays) (a : Posted m k v r) where
-        pub insert-new : Does linked (insert k v) m (say none) r
-        insert-new =
-            does-change linked (insert k v) m (say none) (replace k v (stateOf m)) r refl refl
-            (step-new k v (stateOf m) (u .nobody .absent) (not-full m room) (not-crowded m spare) ∙ rw (u .nobody .rounds)) (a .state ∙ sym replaced) (a .linked)

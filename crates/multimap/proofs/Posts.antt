@@ -14,7 +14,7 @@ use Rattle.multimap.specs.WellLinked.{WellLinked, linked}
 use Rattle.multimap.specs.Arrays.{Arrays}
 use Rattle.multimap.proofs.Stores.{any-none}
 use Rattle.multimap.proofs.Records.{Member}
-use Rattle.multimap.proofs.States.{Unknown, is-full, not-full, is-crowded, not-crowded}
+use Rattle.multimap.proofs.States.{Unknown, is-full, not-full, is-crowded}
 use Rattle.multimap.specs.Adding.{Ready, AddedTo, Joins, Joined, Posted, lastKey}
 
 module _ (m : Arrays) (k : ℕ) where
@@ -67,7 +67,3 @@ module _ (k v : ℕ) (m : Arrays) where
   pub append-known : (key : ℕ) (r : Arrays) → at (m .rounds) 0 < maxRounds → Member m k key → Posted m k v r → Does linked (append k v) m (say (present true)) r
   append-known key r h u a =
       does-change linked (append k v) m (say (present true)) (add k v (stateOf m)) r refl refl (step-known k v (stateOf m) (not-full m h) (u .present)) (a .state) (a .linked)
-
-  pub append-new : (p : ℕ) (r : Arrays) → at (m .rounds) 0 < maxRounds → Unknown m k p → at (m .members) 0 < maxMembers → Posted m k v r → Does linked (append k v) m (say (present false)) r
-  append-new p r h u c a =
-      does-change linked (append k v) m (say (present false)) (add k v (stateOf m)) r refl refl (step-new k v (stateOf m) (not-full m h) (u .nobody .absent) (not-crowded m c)) (a .state) (a .linked)

@@ -2,7 +2,6 @@
 -- Assumes nothing.
 use Prim.Native.Nat.{ℕ}
 use mathlib.Core.Path.{_≡_, refl, sym, ap, _∙_}
-use mathlib.Core.Bool.{true}
 use mathlib.Core.List.{List, [], _∷_, map}
 use lib.ListN.{length, length-map}
 use native.Mathlib.Omega.{arith}
@@ -14,10 +13,8 @@ use denote.Struct.Laws.{val}
 use Rattle.steps.specs.Call.{Call, Outcome}
 use Rattle.steps.specs.Trace.{Does}
 use Rattle.steps.specs.Told.{Told}
-use Rattle.index.specs.declared.KeyPlace.{KeyPlace}
 use Rattle.multimap.specs.Arrays.{Arrays, Sized, arraysOf, recordOf, keyNumber, valueNumber, keyPlace, valuePlace}
-use Rattle.multimap.specs.WellLinked.{WellLinked, linked, typed}
-use Rattle.multimap.specs.declared.ValuePlace.{ValuePlace}
+use Rattle.multimap.specs.WellLinked.{linked, typed}
 use Rattle.multimap.specs.declared.ListOrderedMultimap.{ListOrderedMultimap}
 use Rattle.multimap.proofs.Stores.{unmapped}
 use Rattle.multimap.proofs.ListOrderedMultimap as types

@@ -6,7 +6,7 @@ use mathlib.Core.List.{List, [], _∷_, _++_}
 use native.Mathlib.Omega.{arith}
 use native.Mathlib.Numerals.{add-one}
 use lib.Dec.{eqb}
-use lib.ListN.{length, getD, set, drop, length-set, drop-of-length-le}
+use lib.ListN.{length, getD, drop, length-set, drop-of-length-le}
 use Rattle.links.specs.Route.{pick, tally, keep, without, strip, Route}
 use Rattle.links.specs.Places.{order}
 use Rattle.links.specs.Links.{Links, base, Chained, struck}

@@ -3,13 +3,11 @@ use Prim.Native.Nat.{ℕ}
 use mathlib.Core.Path.{_≡_}
 use mathlib.Core.List.{List, _++_}
 use lib.Dec.{eqb}
-use Rattle.steps.specs.State.{remove-member}
 use Rattle.links.specs.Route.{keep, strip, walk}
 use Rattle.links.specs.Places.{order}
 use Rattle.links.specs.Links.{Chained}
 use Rattle.index.specs.Table.{Holds}
-use Rattle.multimap.specs.Map.{at, roundsOf, membersOf, linksOf, stateOf, ledgerOf}
-use Rattle.multimap.specs.WellLinked.{WellLinked}
+use Rattle.multimap.specs.Map.{at, roundsOf, membersOf, linksOf, ledgerOf}
 use Rattle.multimap.specs.Arrays.{Arrays, Sized}
 
 -- so many member places from `start` on, and those of them that have no round
@@ -48,8 +46,3 @@ pub record Swept (m : Arrays) (ws : List ℕ) (r : Arrays) : Type 0 where
   pub sound : Sound r
   pub left : order (membersOf r) ≡ strip ws (order (membersOf m))
   pub kept : MembersOnly m r
-
--- r is m without the member in the place k and its rounds
-pub record RecordRemoved (m : Arrays) (k : ℕ) (r : Arrays) : Type 0 where
-  pub linked : WellLinked r
-  pub state : stateOf r ≡ remove-member (at (m .keys) k) (stateOf m)

@@ -1,13 +1,11 @@
 -- What a call in place leaves, read as a reply by value. Assumes nothing.
 use Prim.Native.Nat.{ℕ}
 use mathlib.Core.Path.{_≡_, sym, ap, _∙_, subst}
-use mathlib.Core.Bool.{Bool, true, false}
 use mathlib.Core.List.{List, map}
 use Rattle.steps.specs.Call.{Answer}
 use Rattle.steps.specs.Coded.{coded, decoded}
 use Rattle.steps.specs.Step.{write}
 use Rattle.steps.proofs.Coded.{decoded-coded}
-use Rattle.index.specs.Agree.{Decides}
 use Rattle.index.specs.declared.KeyPlace.{KeyPlace}
 use Rattle.multimap.specs.declared.ValuePlace.{ValuePlace}
 use Rattle.multimap.specs.Arrays.{Arrays, arraysOf, keyPlace, valuePlace}

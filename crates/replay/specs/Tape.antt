@@ -6,7 +6,7 @@ use mathlib.Core.Bool.{Bool, cond, _&&_, _||_}
 use mathlib.Core.List.{List, [], _∷_, _++_}
 use Prim.Native.Nat.{ℕ, _+_, _*_, _-_, _≤_}
 use lib.Dec.{eqb, leb, ltb}
-use lib.ListN.{length, take, drop, getD}
+use lib.ListN.{length, take, drop}
 use Rattle.steps.specs.Call.{Call, Outcome, callOf, lends, lendsTwo, hasMarks}
 use Rattle.steps.specs.Step.{over}
 use Rattle.steps.specs.Trace.{Kind, Trace}

@@ -1,7 +1,6 @@
 -- The four numbers of an answer: there are four, and no two answers have the same ones. Assumes nothing.
 use mathlib.Core.Path.{_≡_, refl, ap, sym, _∙_}
 use mathlib.Core.Bool.{true, false}
-use mathlib.Core.List.{List, [], _∷_}
 use Prim.Native.Nat.{ℕ}
 use lib.ListN.{length, getD}
 use Rattle.steps.specs.Call.{Answer, refused, none, done, round, count, present, popped, occupied, vacant}

@@ -1,6 +1,6 @@
 -- How a function of a map is shown to do its step: from what the step comes to. Assumes nothing.
 use mathlib.Core.Path.{_≡_, refl, ap, sym, _∙_}
-use mathlib.Core.Bool.{Bool, true, false, true≢false}
+use mathlib.Core.Bool.{false, true≢false}
 use Prim.Native.Nat.{ℕ}
 use Rattle.steps.specs.State.{State}
 use Rattle.steps.specs.Call.{Call, Outcome, pack-to}
