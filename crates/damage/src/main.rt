@@ -12,6 +12,20 @@ use multimap::Values;
 ghost use Rattle.multimap.specs.Lent.{left};
 ghost use Rattle.multimap.specs.WellLinked.{WellLinked};
 
+fn main() {
+    damaged(b"as it is", Array::Nothing, 0, 0);
+    empty_map();
+    rounds();
+    round_counts();
+    members();
+    member_counts();
+    owners();
+    records();
+    member_without_a_round();
+    index_places();
+    no_damage();
+}
+
 // A map's array in which a place is damaged.
 enum Array {
     Keys,
@@ -221,7 +235,7 @@ fn members() {
     damaged(b"previous_key[1] = 256", Array::PreviousKey, 1, 256);
 }
 
-// The same counts of member places.
+// Damages the counts of member places.
 fn member_counts() {
     damaged(b"keys_len = 1", Array::Members, 0, 1);
     damaged(b"keys_len = 3", Array::Members, 0, 3);
@@ -315,18 +329,4 @@ fn no_damage() {
     damaged(b"keys[2] = 7", Array::Keys, 2, 7);
     damaged(b"length[2] = 9", Array::Lengths, 2, 9);
     damaged(b"values_fresh = 3", Array::Rounds, 1, 3);
-}
-
-fn main() {
-    damaged(b"as it is", Array::Nothing, 0, 0);
-    empty_map();
-    rounds();
-    round_counts();
-    members();
-    member_counts();
-    owners();
-    records();
-    member_without_a_round();
-    index_places();
-    no_damage();
 }

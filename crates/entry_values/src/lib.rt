@@ -30,12 +30,6 @@ pub struct Turn {
     pub back: usize,
 }
 
-fn lesser(x: usize, y: usize) -> usize
-    ensures { λ r. ⌜ r ≡ min x y ⌝ }
-{
-    if x <= y { x } else { y }
-}
-
 // The first `count` of a slice; all of it where it is shorter.
 pub fn filled_part(slice: &[u64], count: usize) -> &[u64]
     ensures { λ r. ⌜ Filled (slice .entry) count r ⌝ }
@@ -119,6 +113,33 @@ pub fn next_back<'s, 'a>(e: &'s mut EntryValues<'a>) -> Got
     t.answer
 }
 
+// A mix of calls on one reader of the first `count` of a slice, a byte for each: 0 is `next`, any other `next_back`. The rounds that the
+// calls give are written out in order, and the answer is their number: the calls after these answered none. Who calls it needs no proof by
+// hand, since no reader is among its parameters.
+pub fn mix(slice: &[u64], count: usize, order: &[u8], out: &mut [u64]) -> usize
+    ensures { λ r. ⌜ Mixed (marks (now (order .entry))) (filledPart count (now (slice .entry))) (now (out .entry)) r (now (out .exit)) ⌝ }
+{
+    let mut e = new(slice, count);
+    let mut k = 0;
+    let mut i = 0;
+    while i < order.len() {
+        let a = if mark(order, i) {
+            next_back(&mut e)
+        } else {
+            next(&mut e)
+        };
+        k = put(out, k, a);
+        i = i + 1;
+    }
+    k
+}
+
+fn lesser(x: usize, y: usize) -> usize
+    ensures { λ r. ⌜ r ≡ min x y ⌝ }
+{
+    if x <= y { x } else { y }
+}
+
 // Whether the mark at i asks for the last round: 0 asks for the first.
 fn mark(order: &[u8], i: usize) -> bool
     requires { ⌜ i < length (now order) ⌝ }
@@ -142,25 +163,4 @@ fn put(out: &mut [u64], k: usize, a: Got) -> usize
         }
         Got::Nothing => k,
     }
-}
-
-// A mix of calls on one reader of the first `count` of a slice, a byte for each: 0 is `next`, any other `next_back`. The rounds that the
-// calls give are written out in order, and the answer is their number: the calls after these answered none. Who calls it needs no proof by
-// hand, since no reader is among its parameters.
-pub fn mix(slice: &[u64], count: usize, order: &[u8], out: &mut [u64]) -> usize
-    ensures { λ r. ⌜ Mixed (marks (now (order .entry))) (filledPart count (now (slice .entry))) (now (out .entry)) r (now (out .exit)) ⌝ }
-{
-    let mut e = new(slice, count);
-    let mut k = 0;
-    let mut i = 0;
-    while i < order.len() {
-        let a = if mark(order, i) {
-            next_back(&mut e)
-        } else {
-            next(&mut e)
-        };
-        k = put(out, k, a);
-        i = i + 1;
-    }
-    k
 }

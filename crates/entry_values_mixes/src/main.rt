@@ -2,6 +2,13 @@
 // with a count above the slice's length. A line for each mix: the count, and each call, f for `next` and b for `next_back`, with its answer.
 use libc::STDOUT_FILENO;
 
+fn main() {
+    for n in 0..896 {
+        let bits = (n % 128) as u8;
+        run_mix(n / 128, bits);
+    }
+}
+
 fn print_call(mark: u8) {
     if mark == 0 {
         io::write_all(STDOUT_FILENO, b" f:");
@@ -39,11 +46,4 @@ fn run_mix(count: usize, bits: u8) {
         print_answer(i < given, out[i]);
     }
     io::write_all(STDOUT_FILENO, b"\n");
-}
-
-fn main() {
-    for n in 0..896 {
-        let bits = (n % 128) as u8;
-        run_mix(n / 128, bits);
-    }
 }

@@ -42,7 +42,7 @@ pub fn insert(m: ListOrderedMultimap, k: u64, v: u64) -> Reply
     plain(m, 1, k, v)
 }
 
-// Does the same, and writes the whole record to the front of `out`.
+// Puts a round v in the place of the member's record, which is written to the front of `out`.
 pub fn insert_all(m: ListOrderedMultimap, k: u64, v: u64, out: &mut [u64]) -> Reply
     requires { ⌜ WellLinked (arraysOf m) ⌝ }
     ensures { λ r. ⌜ Does typed (C.insert-all k v (now (out .entry))) m (write (answerOf (r .answer)) (now (out .exit))) (r .map) ⌝ }
@@ -58,7 +58,7 @@ pub fn remove(m: ListOrderedMultimap, k: u64) -> Reply
     plain(m, 3, k, 0)
 }
 
-// Does the same, and writes the whole record to the front of `out`.
+// Makes the member leave with its record, which is written to the front of `out`.
 pub fn remove_all(m: ListOrderedMultimap, k: u64, out: &mut [u64]) -> Reply
     requires { ⌜ WellLinked (arraysOf m) ⌝ }
     ensures { λ r. ⌜ Does typed (C.remove-all k (now (out .entry))) m (write (answerOf (r .answer)) (now (out .exit))) (r .map) ⌝ }

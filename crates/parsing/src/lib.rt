@@ -11,28 +11,6 @@ pub enum Number {
     No,
 }
 
-// One digit more: No where the byte is none, or the value is not below 2^64.
-fn add_digit(value: u64, b: u8) -> Number
-    ensures { λ r. ⌜ ((bs : List ℕ) → followed r bs ≡ Line.numberFrom value (b ∷ bs)) ⌝ }
-    ensures { λ r. ⌜ below r ⌝ }
-{
-    if b < b'0' {
-        return Number::No;
-    }
-    if b'9' < b {
-        return Number::No;
-    }
-    let digit = (b - b'0') as u64;
-    if 1844674407370955161 < value {
-        return Number::No;
-    }
-    let tens = 10 * value;
-    if 18446744073709551615 - tens < digit {
-        return Number::No;
-    }
-    Number::Value(tens + digit)
-}
-
 pub fn read_number(s: &[u8]) -> Number
     ensures { λ r. ⌜ toldNumber r ≡ Line.numberOf (now (s .entry)) ⌝ }
 {
@@ -94,6 +72,98 @@ pub enum Request {
     Lists,
     Members,
     Bad,
+}
+
+// The longest line, without its line end.
+pub const MAX_LINE: usize = 1100;
+
+pub fn parse(line: &[u8]) -> Request
+    ensures { λ r. ⌜ told r (now (line .entry)) ≡ Line.lineOf (now (line .entry)) ⌝ }
+{
+    if MAX_LINE < line.len() {
+        return Request::Bad;
+    }
+    if line.len() < 1 {
+        return Request::Bad;
+    }
+    let c = line[0];
+    if line.len() < 2 {
+        return alone(c);
+    }
+    if line[1] != b' ' {
+        return Request::Bad;
+    }
+    let rest = &line[2..];
+    with_fields(c, rest)
+}
+
+// Holds the bytes after those that are held, as far as the line is long.
+pub fn hold(bytes: &[u8], line: &mut [u8], held: usize) -> usize
+    ensures { λ r. ⌜ Held (now (bytes .entry)) (now (line .entry)) held (now (line .exit)) r ⌝ }
+{
+    let mut at = least(held, line.len());
+    let mut i = 0;
+    while at < line.len() {
+        if bytes.len() <= i {
+            return at;
+        }
+        line[at] = bytes[i];
+        at += 1;
+        i += 1;
+    }
+    at
+}
+
+// Whether a line ended, how many of its first bytes are held, and how many bytes of the chunk were used.
+pub struct Taken {
+    pub ended: bool,
+    pub held: usize,
+    pub used: usize,
+}
+
+// Takes a chunk of the input up to its first line end. As many bytes of the line are held as `line` is long: in MAX_LINE + 1 of them `parse`
+// sees that a line is too long.
+pub fn take_line(chunk: &[u8], line: &mut [u8], held: usize) -> Taken
+    ensures { λ r. ⌜ Took (now (chunk .entry)) (now (line .entry)) held (now (line .exit)) r ⌝ }
+{
+    let n = gap(chunk, b'\n');
+    if n < chunk.len() {
+        let kept = hold(&chunk[..n], line, held);
+        let used = n + 1;
+        return Taken {
+            ended: true,
+            held: kept,
+            used,
+        };
+    }
+    let kept = hold(chunk, line, held);
+    Taken {
+        ended: false,
+        held: kept,
+        used: chunk.len(),
+    }
+}
+
+// One digit more: No where the byte is none, or the value is not below 2^64.
+fn add_digit(value: u64, b: u8) -> Number
+    ensures { λ r. ⌜ ((bs : List ℕ) → followed r bs ≡ Line.numberFrom value (b ∷ bs)) ⌝ }
+    ensures { λ r. ⌜ below r ⌝ }
+{
+    if b < b'0' {
+        return Number::No;
+    }
+    if b'9' < b {
+        return Number::No;
+    }
+    let digit = (b - b'0') as u64;
+    if 1844674407370955161 < value {
+        return Number::No;
+    }
+    let tens = 10 * value;
+    if 18446744073709551615 - tens < digit {
+        return Number::No;
+    }
+    Number::Value(tens + digit)
 }
 
 // A letter alone.
@@ -166,78 +236,8 @@ fn with_fields(c: u8, rest: &[u8]) -> Request
     with_two(c, x, y)
 }
 
-// The longest line, without its line end.
-pub const MAX_LINE: usize = 1100;
-
-pub fn parse(line: &[u8]) -> Request
-    ensures { λ r. ⌜ told r (now (line .entry)) ≡ Line.lineOf (now (line .entry)) ⌝ }
-{
-    if MAX_LINE < line.len() {
-        return Request::Bad;
-    }
-    if line.len() < 1 {
-        return Request::Bad;
-    }
-    let c = line[0];
-    if line.len() < 2 {
-        return alone(c);
-    }
-    if line[1] != b' ' {
-        return Request::Bad;
-    }
-    let rest = &line[2..];
-    with_fields(c, rest)
-}
-
 fn least(a: usize, b: usize) -> usize
     ensures { λ r. ⌜ r ≡ min a b ⌝ }
 {
     if a < b { a } else { b }
-}
-
-// Holds the bytes after those that are held, as far as the line is long.
-pub fn hold(bytes: &[u8], line: &mut [u8], held: usize) -> usize
-    ensures { λ r. ⌜ Held (now (bytes .entry)) (now (line .entry)) held (now (line .exit)) r ⌝ }
-{
-    let mut at = least(held, line.len());
-    let mut i = 0;
-    while at < line.len() {
-        if bytes.len() <= i {
-            return at;
-        }
-        line[at] = bytes[i];
-        at += 1;
-        i += 1;
-    }
-    at
-}
-
-// Whether a line ended, how many of its first bytes are held, and how many bytes of the chunk were used.
-pub struct Taken {
-    pub ended: bool,
-    pub held: usize,
-    pub used: usize,
-}
-
-// Takes a chunk of the input up to its first line end. As many bytes of the line are held as `line` is long: in MAX_LINE + 1 of them `parse`
-// sees that a line is too long.
-pub fn take_line(chunk: &[u8], line: &mut [u8], held: usize) -> Taken
-    ensures { λ r. ⌜ Took (now (chunk .entry)) (now (line .entry)) held (now (line .exit)) r ⌝ }
-{
-    let n = gap(chunk, b'\n');
-    if n < chunk.len() {
-        let kept = hold(&chunk[..n], line, held);
-        let used = n + 1;
-        return Taken {
-            ended: true,
-            held: kept,
-            used,
-        };
-    }
-    let kept = hold(chunk, line, held);
-    Taken {
-        ended: false,
-        held: kept,
-        used: chunk.len(),
-    }
 }

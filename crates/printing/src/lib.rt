@@ -41,7 +41,7 @@ pub fn print_answer(out: &mut [u8], answer: Answer) -> usize
     }
 }
 
-// The same of an answer that counts the rounds written out.
+// Prints an answer that counts the rounds written out, with these.
 pub fn print_old(out: &mut [u8], answer: Answer, rounds: &[u64; 1024]) -> usize
     ensures { λ r. ⌜ Prints (now (out .entry)) (Reply.textOf (Reply.old (lend (now (rounds .entry)) [])) (answerOf answer)) (now (out .exit)) r ⌝ }
 {
@@ -54,7 +54,7 @@ pub fn print_old(out: &mut [u8], answer: Answer, rounds: &[u64; 1024]) -> usize
     print_rounds(out, n, rounds)
 }
 
-// The same of an answer that counts the members written out.
+// Prints an answer that counts the members written out, with these.
 pub fn print_members(out: &mut [u8], answer: Answer, members: &[u64; 1024]) -> usize
     ensures { λ r. ⌜ Prints (now (out .entry)) (Reply.textOf (Reply.keyed (lend (now (members .entry)) [])) (answerOf answer)) (now (out .exit)) r ⌝ }
 {
@@ -67,7 +67,7 @@ pub fn print_members(out: &mut [u8], answer: Answer, members: &[u64; 1024]) -> u
     print_keys(out, n, members)
 }
 
-// The same of an answer that counts the pairs written out.
+// Prints an answer that counts the pairs written out, with these.
 pub fn print_pairs(
     out: &mut [u8],
     answer: Answer,

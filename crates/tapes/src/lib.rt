@@ -13,6 +13,20 @@ ghost use lib.ListN.{length};
 ghost use Rattle.parsing.specs.Split.{Held};
 ghost use Rattle.tapes.specs.Printed.{leftText, runText, partsText, listsText, Answers};
 
+// Runs the lists of the text one after the other, and prints them to the front of `out`, as far as there is room. Answers how many bytes it wrote.
+pub fn answer_lists(text: &[u8], out: &mut [u8]) -> usize
+    ensures { λ r. ⌜ Held (listsText (now (text .entry))) (now (out .entry)) 0 (now (out .exit)) r ⌝ }
+{
+    let mut at = 0;
+    let mut place = 0;
+    while at < text.len() {
+        let answered = answer_list(&text[at..], out, place);
+        place = answered.printed;
+        at += answered.eaten;
+    }
+    place
+}
+
 // How many bytes of the text a list took, and the place after what was printed.
 struct Answered {
     eaten: usize,
@@ -101,18 +115,4 @@ fn answer_list(text: &[u8], out: &mut [u8], at: usize) -> Answered
     let named = parsing::hold(name, out, at);
     let printed = print_parts(calls, out, named);
     Answered { eaten, printed }
-}
-
-// Runs the lists of the text one after the other, and prints them to the front of `out`, as far as there is room. Answers how many bytes it wrote.
-pub fn answer_lists(text: &[u8], out: &mut [u8]) -> usize
-    ensures { λ r. ⌜ Held (listsText (now (text .entry))) (now (out .entry)) 0 (now (out .exit)) r ⌝ }
-{
-    let mut at = 0;
-    let mut place = 0;
-    while at < text.len() {
-        let answered = answer_list(&text[at..], out, place);
-        place = answered.printed;
-        at += answered.eaten;
-    }
-    place
 }

@@ -27,6 +27,37 @@ pub(crate) fn rest(s: &[u8]) -> &[u8]
     &s[next..]
 }
 
+pub(crate) fn read_numbers(s: &[u8], numbers: &mut [u64]) -> usize
+    ensures { λ r. ⌜ Held (numbersOf (now (s .entry))) (now (numbers .entry)) 0 (now (numbers .exit)) r ⌝ }
+{
+    let mut count = 0;
+    let mut begun = false;
+    let mut n = 0;
+    let mut i = 0;
+    while i < s.len() {
+        let b = s[i];
+        let digit = is_digit(b);
+        count = keep_number(numbers, count, ends(begun, digit), n);
+        n = grow(digit, n, b);
+        begun = digit;
+        i += 1;
+    }
+    keep_number(numbers, count, begun, n)
+}
+
+pub(crate) fn read_marks(s: &[u8], marks: &mut [u8]) -> usize
+    ensures { λ r. ⌜ Held (marksOf (now (s .entry))) (now (marks .entry)) 0 (now (marks .exit)) r ⌝ }
+{
+    let mut count = 0;
+    let mut i = 0;
+    while i < s.len() {
+        let b = s[i];
+        count = keep_mark(marks, count, is_digit(b), b);
+        i += 1;
+    }
+    count
+}
+
 fn is_digit(b: u8) -> bool
     ensures { λ r. ⌜ r ≡ isDigit b ⌝ }
 {
@@ -78,24 +109,6 @@ fn keep_number(numbers: &mut [u64], count: usize, is: bool, n: u64) -> usize
     count + 1
 }
 
-pub(crate) fn read_numbers(s: &[u8], numbers: &mut [u64]) -> usize
-    ensures { λ r. ⌜ Held (numbersOf (now (s .entry))) (now (numbers .entry)) 0 (now (numbers .exit)) r ⌝ }
-{
-    let mut count = 0;
-    let mut begun = false;
-    let mut n = 0;
-    let mut i = 0;
-    while i < s.len() {
-        let b = s[i];
-        let digit = is_digit(b);
-        count = keep_number(numbers, count, ends(begun, digit), n);
-        n = grow(digit, n, b);
-        begun = digit;
-        i += 1;
-    }
-    keep_number(numbers, count, begun, n)
-}
-
 fn keep_mark(marks: &mut [u8], count: usize, is: bool, b: u8) -> usize
     requires { ⌜ count ≤ length (now marks) ⌝ }
     ensures { λ r. ⌜ Held (only is (b - 48)) (now (marks .entry)) count (now (marks .exit)) r ⌝ }
@@ -108,17 +121,4 @@ fn keep_mark(marks: &mut [u8], count: usize, is: bool, b: u8) -> usize
     }
     marks[count] = digit_of(b);
     count + 1
-}
-
-pub(crate) fn read_marks(s: &[u8], marks: &mut [u8]) -> usize
-    ensures { λ r. ⌜ Held (marksOf (now (s .entry))) (now (marks .entry)) 0 (now (marks .exit)) r ⌝ }
-{
-    let mut count = 0;
-    let mut i = 0;
-    while i < s.len() {
-        let b = s[i];
-        count = keep_mark(marks, count, is_digit(b), b);
-        i += 1;
-    }
-    count
 }

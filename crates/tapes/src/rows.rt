@@ -18,13 +18,6 @@ pub(crate) fn put_after(out: &mut [u8], at: usize, mark: u8, n: u64) -> usize
     parsing::hold(&text[..k], out, next)
 }
 
-fn separator(width: usize, i: usize) -> u8
-    requires { ⌜ 0 < width ⌝ }
-    ensures { λ r. ⌜ r ≡ separatorOf width i ⌝ }
-{
-    if i % width == 0 { b'\n' } else { b' ' }
-}
-
 // The numbers in lines of `width`, each line after a line end.
 pub(crate) fn put_rows(out: &mut [u8], at: usize, values: &[u64], width: usize) -> usize
     requires { ⌜ (0 < width) × (at ≤ length (now out)) ⌝ }
@@ -37,4 +30,11 @@ pub(crate) fn put_rows(out: &mut [u8], at: usize, values: &[u64], width: usize) 
         i += 1;
     }
     place
+}
+
+fn separator(width: usize, i: usize) -> u8
+    requires { ⌜ 0 < width ⌝ }
+    ensures { λ r. ⌜ r ≡ separatorOf width i ⌝ }
+{
+    if i % width == 0 { b'\n' } else { b' ' }
 }

@@ -57,7 +57,7 @@ pub fn well_linked<'a>(
     index::agrees(index, keys, &used)
 }
 
-// Says the same by a number: 1 for yes, 0 for no.
+// Says whether a map is well-linked by a number: 1 for yes, 0 for no.
 #[rattlefmt::skip]
 #[no_mangle]
 pub extern "C" fn om_well_linked<'a>(
