@@ -1,8 +1,8 @@
 #!/bin/sh
 # Builds the Rust crate that the port is compared with: list_ordered_multimap.rs of ordered-multimap 0.7.3 as published,
-# over Debian's dlv-list and hashbrown, as target/oracle/libordered_multimap.rlib. Nothing is written outside target/.
-# ORACLE_SOURCE names the source file where it does not stand beside the work tree. The file may end with an attribute of
-# something that is not in it, or without.
+# over Debian's dlv-list and hashbrown, as target/oracle/libordered_multimap.rlib. Nothing is written outside target/ and
+# oracle/debs/, which keeps what was fetched, since the gate empties target/. ORACLE_SOURCE names the source file where it does
+# not stand beside the work tree. The file may end with an attribute of something that is not in it, or without.
 set -eu
 
 root=$(cd "$(dirname "$0")/.." && pwd)
@@ -49,7 +49,7 @@ library() {
 }
 
 [ -f "$source" ] || die "$source is missing; ORACLE_SOURCE may name the file"
-mkdir -p "$out/debs" "$out/src"
+mkdir -p "$debs" "$out/src"
 up_to_last_brace "$source" >"$out/src/list_ordered_multimap.rs"
 has_sha256 "$out/src/list_ordered_multimap.rs" "$source_sha256" ||
     die "$source is not as published: up to its last brace it has another sha256 than $source_sha256"

@@ -7,6 +7,7 @@ use crate::model::{Call, Op, MAX_MEMBERS, MAX_ROUNDS};
 pub enum Aim {
     NoSlower,
     Half,
+    Fifth,
     Copies(f64),
     None,
 }

@@ -78,3 +78,33 @@ pub fn time_copies(bytes: usize) -> f64 {
     };
     median((1..128).map(run).collect())
 }
+
+// As many bytes as the port's record.
+#[derive(Clone, Copy)]
+#[repr(C)]
+struct Block([u64; 3012]);
+
+// Takes a record by value and hands it back, as C passes them, and does no more.
+#[inline(never)]
+extern "C" fn hand_back(mut block: Block) -> Block {
+    hold(&mut block);
+    block
+}
+
+// What the least call by value takes: a record goes in from one place, and comes back to another.
+pub fn time_handing() -> f64 {
+    let (mut now, mut next) = (Box::new(Block([1; 3012])), Box::new(Block([0; 3012])));
+    let mut run = |calls: usize| {
+        let mut work = || {
+            for _ in 0..COPIES {
+                *next = hand_back(*now);
+                std::mem::swap(&mut now, &mut next);
+                hold(&mut *now);
+            }
+        };
+        let mut time = 0.0;
+        deep(calls, &mut || time = timed(&mut work) / COPIES as f64);
+        time
+    };
+    median((0..128).map(&mut run).collect())
+}

@@ -15,6 +15,9 @@ mod coverage;
 mod crate_map;
 #[cfg(not(without_port))]
 mod damage;
+#[cfg(not(without_port))]
+#[path = "../../bindings/rust/src/declarations.rs"]
+mod declarations;
 mod endings;
 mod faults;
 mod image;
