@@ -2,7 +2,7 @@
 # Runs the two programs of docs/MIGRATION.md, the crate's and the package's, and shows that they print the same; and
 # that the page has them as they are. Then makes calls on a map of the package and one of the crate (beside.rs).
 # ORACLE_SOURCE names the crate's source where it does not stand beside the work tree (oracle/build.sh). Nothing is
-# written outside target/ and bindings/rust/target/.
+# written outside target/, oracle/debs/ and bindings/rust/target/.
 set -eu
 
 cd "$(dirname "$0")/../.."

@@ -65,6 +65,9 @@
 #![deny(missing_docs)]
 
 mod answer;
+#[cfg(test)]
+mod bounds;
+mod declarations;
 mod derived;
 mod entry;
 mod error;
