@@ -49,7 +49,7 @@ fn bit(b: bool) -> u64
     if b { 1 } else { 0 }
 }
 
-// Which answer it is.
+// Says by a number which answer it is.
 fn word0(a: Answer) -> u64
     ensures { λ r. ⌜ r ≡ getD (coded (answerOf a)) 0 0 ⌝ }
 {
@@ -66,7 +66,7 @@ fn word0(a: Answer) -> u64
     }
 }
 
-// Its first number.
+// Gives its first number.
 fn word1(a: Answer) -> u64
     ensures { λ r. ⌜ r ≡ getD (coded (answerOf a)) 1 0 ⌝ }
 {
@@ -83,7 +83,7 @@ fn word1(a: Answer) -> u64
     }
 }
 
-// The round that was popped.
+// Gives the round that was popped.
 fn word2(a: Answer) -> u64
     ensures { λ r. ⌜ r ≡ getD (coded (answerOf a)) 2 0 ⌝ }
 {
@@ -100,7 +100,7 @@ fn word2(a: Answer) -> u64
     }
 }
 
-// Whether its member left.
+// Says whether its member left.
 fn word3(a: Answer) -> u64
     ensures { λ r. ⌜ r ≡ getD (coded (answerOf a)) 3 0 ⌝ }
 {

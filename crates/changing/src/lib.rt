@@ -145,7 +145,7 @@ pub fn leave(
     true
 }
 
-// One more round taken in, up to the ceiling.
+// Counts one more round taken in, up to the ceiling.
 fn more(taken: u32) -> u32
     ensures { λ r. ⌜ r ≡ min (taken + 1) maxTaken ⌝ }
 {

@@ -45,7 +45,7 @@ enum Array {
     Nothing,
 }
 
-// The rounds 7:10, 9:20 and 7:11 in the places 0 to 2, their members in 0 and 1. Round place 3 and member place 2 are freed.
+// Makes the sample: the rounds 7:10, 9:20 and 7:11 in the places 0 to 2, their members in 0 and 1. Round place 3 and member place 2 are freed.
 #[rattlefmt::skip]
 fn sample(
     keys: &mut Keys, lengths: &mut Lengths, next_key: &mut KeyLinks, previous_key: &mut KeyLinks,
@@ -145,7 +145,7 @@ fn say<'a>(
     }
 }
 
-// The sample with one place damaged.
+// Prints what the check says of the sample with one place damaged.
 #[rattlefmt::skip]
 fn damaged(what: &[u8], array: Array, at: usize, v: u64) {
     let mut keys = [0u64; 256];
@@ -177,7 +177,7 @@ fn damaged(what: &[u8], array: Array, at: usize, v: u64) {
     );
 }
 
-// The map without a round.
+// Prints what the check says of the map without a round.
 #[rattlefmt::skip]
 fn empty_map() {
     let mut keys = [0u64; 256];
@@ -205,7 +205,7 @@ fn empty_map() {
     );
 }
 
-// The list of rounds.
+// Damages the list of rounds.
 fn rounds() {
     damaged(b"next_value[1024] = 1", Array::NextValue, 1024, 1);
     damaged(b"next_value[0] = 2", Array::NextValue, 0, 2);
@@ -215,7 +215,7 @@ fn rounds() {
     damaged(b"previous_value[2] = 0", Array::PreviousValue, 2, 0);
 }
 
-// How many round places are in use and have ever been, and the first freed one.
+// Damages how many round places are in use and have ever been, and the first freed one.
 fn round_counts() {
     damaged(b"values_len = 2", Array::Rounds, 0, 2);
     damaged(b"values_len = 4", Array::Rounds, 0, 4);
@@ -225,7 +225,7 @@ fn round_counts() {
     damaged(b"values_free = 4", Array::Rounds, 2, 4);
 }
 
-// The list of members.
+// Damages the list of members.
 fn members() {
     damaged(b"next_key[256] = 1", Array::NextKey, 256, 1);
     damaged(b"next_key[0] = 0", Array::NextKey, 0, 0);
@@ -245,14 +245,14 @@ fn member_counts() {
     damaged(b"keys_free = 3", Array::Members, 2, 3);
 }
 
-// The member place of the round 20: another one, the freed one, none.
+// Damages the member place of the round 20: another one, the freed one, none.
 fn owners() {
     damaged(b"key_index[1] = 0", Array::KeyIndex, 1, 0);
     damaged(b"key_index[1] = 2", Array::KeyIndex, 1, 2);
     damaged(b"key_index[1] = 256", Array::KeyIndex, 1, 256);
 }
 
-// The records: heads and tails, the links between, and the lengths.
+// Damages the records: heads and tails, the links between, and the lengths.
 fn records() {
     damaged(b"next_index[1024] = 2", Array::NextIndex, 1024, 2);
     damaged(b"previous_index[1024] = 0", Array::PreviousIndex, 1024, 0);
@@ -266,7 +266,7 @@ fn records() {
     damaged(b"length[1] = 0", Array::Lengths, 1, 0);
 }
 
-// The round 20 is given to the first member, with every link and length of its record. The second member has no round.
+// Gives the round 20 to the first member, with every link and length of its record. The second member has no round.
 #[rattlefmt::skip]
 fn member_without_a_round() {
     let mut keys = [0u64; 256];
@@ -303,7 +303,7 @@ fn member_without_a_round() {
     );
 }
 
-// The index, and the member numbers.
+// Damages the index, and the member numbers.
 fn index_places() {
     damaged(
         b"index[start(7)] = EMPTY",
@@ -319,7 +319,7 @@ fn index_places() {
     damaged(b"keys[0] = 8", Array::Keys, 0, 8);
 }
 
-// What a well-linked map may have as well: another round, any T, anything in a place that is not in use.
+// Changes what a well-linked map may have as well: another round, any T, anything in a place that is not in use.
 fn no_damage() {
     damaged(b"values[0] = 99", Array::Values, 0, 99);
     damaged(b"taken = 0", Array::Taken, 0, 0);

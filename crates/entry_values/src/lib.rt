@@ -30,7 +30,7 @@ pub struct Turn {
     pub back: usize,
 }
 
-// The first `count` of a slice; all of it where it is shorter.
+// Refers to the first `count` of a slice; to all of it where it is shorter.
 pub fn filled_part(slice: &[u64], count: usize) -> &[u64]
     ensures { λ r. ⌜ Filled (slice .entry) count r ⌝ }
 {
@@ -38,7 +38,7 @@ pub fn filled_part(slice: &[u64], count: usize) -> &[u64]
     &slice[..end]
 }
 
-// How many rounds there are from front to back.
+// Counts the rounds from front to back.
 pub fn count_between(rounds: &[u64], front: usize, back: usize) -> usize
     ensures { λ r. ⌜ r ≡ length (between front back (now (rounds .entry))) ⌝ }
 {
@@ -46,7 +46,7 @@ pub fn count_between(rounds: &[u64], front: usize, back: usize) -> usize
     if front < end { end - front } else { 0 }
 }
 
-// The first or the last round from front to back, and the ends without it.
+// Gives the first or the last round from front to back, and the ends without it.
 pub fn give(rounds: &[u64], front: usize, back: usize, last: bool) -> Turn
     ensures { λ r. ⌜ Gave last (between front back (now (rounds .entry))) (r .answer) (between (r .front) (r .back) (now (rounds .entry))) ⌝ }
 {
@@ -74,7 +74,7 @@ pub fn give(rounds: &[u64], front: usize, back: usize, last: bool) -> Turn
     }
 }
 
-// A reader of the part of a slice that `get_all` filled, where it answered `count`.
+// Makes a reader of the part of a slice that `get_all` filled, where it answered `count`.
 pub fn new<'a>(slice: &'a [u64], count: usize) -> EntryValues<'a>
     ensures { λ e. ⌜ Fresh (slice .entry) count e ⌝ }
 {
@@ -86,14 +86,14 @@ pub fn new<'a>(slice: &'a [u64], count: usize) -> EntryValues<'a>
     }
 }
 
-// How many rounds are not given yet.
+// Counts the rounds that are not given yet.
 pub fn len<'a>(e: EntryValues<'a>) -> usize
     ensures { λ n. ⌜ n ≡ length (remaining (e .entry)) ⌝ }
 {
     count_between(e.rounds, e.front, e.back)
 }
 
-// The first round not yet given, or none.
+// Gives the first round not yet given, or none.
 pub fn next<'s, 'a>(e: &'s mut EntryValues<'a>) -> Got
     ensures { λ r. ⌜ Stepped false (now (e .entry)) r (now (e .exit)) ⌝ }
 {
@@ -103,7 +103,7 @@ pub fn next<'s, 'a>(e: &'s mut EntryValues<'a>) -> Got
     t.answer
 }
 
-// The last round not yet given, or none.
+// Gives the last round not yet given, or none.
 pub fn next_back<'s, 'a>(e: &'s mut EntryValues<'a>) -> Got
     ensures { λ r. ⌜ Stepped true (now (e .entry)) r (now (e .exit)) ⌝ }
 {
@@ -113,7 +113,7 @@ pub fn next_back<'s, 'a>(e: &'s mut EntryValues<'a>) -> Got
     t.answer
 }
 
-// A mix of calls on one reader of the first `count` of a slice, a byte for each: 0 is `next`, any other `next_back`. The rounds that the
+// Makes a mix of calls on one reader of the first `count` of a slice, a byte for each: 0 is `next`, any other `next_back`. The rounds that the
 // calls give are written out in order, and the answer is their number: the calls after these answered none. Who calls it needs no proof by
 // hand, since no reader is among its parameters.
 pub fn mix(slice: &[u64], count: usize, order: &[u8], out: &mut [u64]) -> usize
@@ -140,7 +140,7 @@ fn lesser(x: usize, y: usize) -> usize
     if x <= y { x } else { y }
 }
 
-// Whether the mark at i asks for the last round: 0 asks for the first.
+// Says whether the mark at i asks for the last round: 0 asks for the first.
 fn mark(order: &[u8], i: usize) -> bool
     requires { ⌜ i < length (now order) ⌝ }
     ensures { λ r. ⌜ r ≡ markOf (getD (now (order .entry)) i 0) ⌝ }

@@ -25,8 +25,8 @@ fn print_answer(given: bool, round: u64) {
     }
 }
 
-// One mix, and its line. A bit for each call, the lowest for the first: 0 is `next`, 1 is `next_back`. The calls after the first `given`
-// answered none.
+// Runs one mix and prints its line. A bit for each call, the lowest for the first: 0 is `next`, 1 is `next_back`. The calls after the
+// first `given` answered none.
 fn run_mix(count: usize, bits: u8) {
     let slice: [u64; 5] = [7, 0, 18446744073709551615, 12, 9];
     let order: [u8; 7] = [

@@ -62,7 +62,7 @@ fn print_members<'a>(keys: &'a Keys, next_key: &'a KeyLinks, members: &'a Counts
     }
 }
 
-// The byte that is to stand at i: the image's, or past it 255.
+// Says which byte is to stand at i: the image's, or past it 255.
 fn wanted(s: &[u8], i: usize) -> u8 {
     if i < s.len() { s[i] } else { 255 }
 }
@@ -79,7 +79,7 @@ fn print_written(answer: Answer) {
     }
 }
 
-// The map's image, written again.
+// Writes the map's image again, and prints how it went.
 #[rattlefmt::skip]
 fn print_image<'a>(
     keys: &'a Keys, values: &'a Values, key_index: &'a KeyIndex, next_value: &'a ValueLinks, members: &'a Counts, rounds: &'a Counts, s: &[u8],
@@ -138,7 +138,7 @@ fn two_bytes(low: u8, high: u8) -> usize {
     low as usize + 256 * high as usize
 }
 
-// So many bytes of the input to the front of a slice; whether there were as many, and room for them.
+// Reads so many bytes of the input to the front of a slice; says whether there were as many, and room for them.
 fn read_front(bytes: &mut [u8], length: usize) -> bool {
     if bytes.len() < length {
         return false;
@@ -152,7 +152,7 @@ fn show_front(bytes: &[u8], length: usize) {
     }
 }
 
-// One image; whether there was one.
+// Reads one image and prints its line; says whether there was one.
 fn turn() -> bool {
     let mut head = [0u8; 2];
     if !read_front(&mut head, 2) {

@@ -24,21 +24,21 @@ pub enum Found {
     Absent(usize, usize),
 }
 
-// The index with every place empty.
+// Makes the index with every place empty.
 pub fn empty() -> [u16; 512]
     ensures { λ r. ⌜ r ≡ emptyIndex ⌝ }
 {
     [EMPTY; 512]
 }
 
-// Where the search for a member starts.
+// Says where the search for a member starts.
 pub fn start(member: u64) -> usize
     ensures { λ r. ⌜ r ≡ home member ⌝ }
 {
     (fnv::hash(member) % 512) as usize
 }
 
-// The search for a member.
+// Searches for a member.
 pub fn find<'a>(index: &'a [u16; 512], keys: &'a [u64; 256], member: u64) -> Found
     ensures { λ r. ⌜ r ≡ searched (now (index .entry)) (now (keys .entry)) member ⌝ }
 {
@@ -58,7 +58,7 @@ pub fn find<'a>(index: &'a [u16; 512], keys: &'a [u64; 256], member: u64) -> Fou
     Found::Absent(place, looked)
 }
 
-// The member place `key` is put into the place `at`. Where that is past the end, nothing changes.
+// Puts the member place `key` into the place `at`. Where that is past the end, nothing changes.
 pub fn insert(index: &mut [u16; 512], at: usize, key: KeyPlace)
     ensures { λ _. ⌜ now (index .exit) ≡ set (now (index .entry)) at (key .0) ⌝ }
 {
@@ -69,7 +69,7 @@ pub fn insert(index: &mut [u16; 512], at: usize, key: KeyPlace)
     }
 }
 
-// A member is taken out of the index, and the gap closed. A number that the search does not find changes nothing.
+// Takes a member out of the index, and closes the gap. A number that the search does not find changes nothing.
 pub fn remove(index: &mut [u16; 512], keys: &[u64; 256], member: u64)
     ensures { λ _. ⌜ Removed (now (index .entry)) (now (keys .entry)) member (now (index .exit)) ⌝ }
 {
@@ -80,7 +80,7 @@ pub fn remove(index: &mut [u16; 512], keys: &[u64; 256], member: u64)
     close(index, keys, at);
 }
 
-// Whether the index holds exactly the member places in use.
+// Says whether the index holds exactly the member places in use.
 pub fn agrees<'a>(index: &'a [u16; 512], keys: &'a [u64; 256], used: &'a [bool; 256]) -> bool
     ensures { λ r. ⌜ ((ks : List ℕ) → Lists (now (used .entry)) ks → Decides r (Holds (now (index .entry)) (now (keys .entry)) ks)) ⌝ }
 {
@@ -103,7 +103,7 @@ pub fn agrees<'a>(index: &'a [u16; 512], keys: &'a [u64; 256], used: &'a [bool; 
     true
 }
 
-// How many steps up it is from a to b.
+// Counts the steps up from a to b.
 fn steps(a: usize, b: usize) -> usize
     requires { ⌜ (a < 512) × (b < 512) ⌝ }
     ensures { λ r. ⌜ r ≡ dist a b ⌝ }
@@ -111,7 +111,7 @@ fn steps(a: usize, b: usize) -> usize
     (b + (512 - a)) % 512
 }
 
-// What stands in the place `at` is taken out and the gap closed: each later member whose search passes it moves down into it.
+// Takes out what stands in the place `at`, and closes the gap: each later member whose search passes it moves down into it.
 fn close(index: &mut [u16; 512], keys: &[u64; 256], at: usize)
     requires { ⌜ at < 512 ⌝ }
     ensures { λ _. ⌜ Closed (now (index .entry)) (now (keys .entry)) at (now (index .exit)) ⌝ }
@@ -135,7 +135,7 @@ fn close(index: &mut [u16; 512], keys: &[u64; 256], at: usize)
     }
 }
 
-// Whether a search ended in the place `at` with what it looked for.
+// Says whether a search ended in the place `at` with what it looked for.
 fn found_in(found: Found, at: usize) -> bool
     ensures { λ r. ⌜ Decides r (FoundIn at found) ⌝ }
 {
@@ -145,7 +145,7 @@ fn found_in(found: Found, at: usize) -> bool
     }
 }
 
-// Whether a search found the member place `key`.
+// Says whether a search found the member place `key`.
 fn found_key(found: Found, key: u16) -> bool
     ensures { λ r. ⌜ Decides r (FoundKey key found) ⌝ }
 {
@@ -158,7 +158,7 @@ fn found_key(found: Found, key: u16) -> bool
     }
 }
 
-// Whether a place is empty, or holds a member place in use whose member is found there.
+// Says whether a place is empty, or holds a member place in use whose member is found there.
 fn place_ok<'a>(
     index: &'a [u16; 512],
     keys: &'a [u64; 256],
@@ -185,7 +185,7 @@ fn place_ok<'a>(
     }
 }
 
-// Whether a member place is not in use, or its member is found under it.
+// Says whether a member place is not in use, or its member is found under it.
 fn key_ok<'a>(index: &'a [u16; 512], keys: &'a [u64; 256], used: &'a [bool; 256], key: u16) -> bool
     requires { ⌜ key < 256 ⌝ }
     ensures { λ r. ⌜ Decides r (KeyOk (now (index .entry)) (now (keys .entry)) (now (used .entry)) key) ⌝ }

@@ -49,7 +49,7 @@ fn none() -> Members {
     }
 }
 
-// A number and its hash.
+// Prints a number and its hash.
 fn print_hash(member: u64) {
     io::write_all(1, b"hash ");
     io::print_decimal(1, member);
@@ -58,7 +58,7 @@ fn print_hash(member: u64) {
     io::write_all(1, b"\n");
 }
 
-// What the search for a member says: the place where it ended, and how many places it looked at.
+// Prints what the search for a member says: the place where it ended, and how many places it looked at.
 fn print_find(m: Members, member: u64) {
     let index = m.index;
     let keys = m.keys;
@@ -81,7 +81,7 @@ fn print_find(m: Members, member: u64) {
     io::write_all(1, b"\n");
 }
 
-// The member joins in the member place `key`, unless it is there already.
+// Lets the member join in the member place `key`, unless it is there already.
 fn join(m: Members, member: u64, key: u16) -> Members {
     let mut out = m;
     let index = out.index;
@@ -101,7 +101,7 @@ fn join(m: Members, member: u64, key: u16) -> Members {
     out
 }
 
-// The member leaves, if it is there. Where the gap is not closed, its place in the index is only emptied.
+// Makes the member leave, if it is there. Where the gap is not closed, its place in the index is only emptied.
 fn leave(m: Members, member: u64, closed: bool) -> Members {
     let mut out = m;
     let index = out.index;
@@ -123,7 +123,7 @@ fn leave(m: Members, member: u64, closed: bool) -> Members {
     out
 }
 
-// Whether the index holds exactly the members.
+// Prints whether the index holds exactly the members.
 fn print_agrees(m: Members) {
     let index = m.index;
     let keys = m.keys;
@@ -135,7 +135,7 @@ fn print_agrees(m: Members) {
     }
 }
 
-// The member number of a member place. The first eight start at 510, 510, 510, 511, 0, 511, 4 and 3.
+// Gives the member number of a member place. The first eight start at 510, 510, 510, 511, 0, 511, 4 and 3.
 fn number(i: u16) -> u64 {
     match i {
         0 => 412,
@@ -150,7 +150,7 @@ fn number(i: u16) -> u64 {
     }
 }
 
-// The first n numbers join.
+// Lets the first n numbers join.
 fn join_first(m: Members, n: u16) -> Members {
     let mut out = m;
     let mut i: u16 = 0;
@@ -161,7 +161,7 @@ fn join_first(m: Members, n: u16) -> Members {
     out
 }
 
-// Every third of 256 numbers leaves.
+// Makes every third of 256 numbers leave.
 fn leave_third(m: Members) -> Members {
     let mut out = m;
     let mut i: u16 = 0;

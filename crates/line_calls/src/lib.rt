@@ -139,7 +139,7 @@ pub fn back(
     print_answer(out, answer)
 }
 
-// The bytes after the letter and its space are the marks; more than a line has are none.
+// Takes the bytes after the letter and its space for the marks; more than a line has are none.
 #[rattlefmt::skip]
 pub fn keeps(
     keys: &mut Keys, lengths: &mut Lengths, next_key: &mut KeyLinks, previous_key: &mut KeyLinks,

@@ -69,7 +69,7 @@ pub struct ListOrderedMultimap {
     pub taken: u32,
 }
 
-// The empty map.
+// Makes the empty map.
 pub fn new() -> ListOrderedMultimap
     ensures { λ r. ⌜ WellLinked (arraysOf r) × (stateOf (arraysOf r) ≡ empty) ⌝ }
 {
@@ -100,7 +100,7 @@ pub fn new() -> ListOrderedMultimap
     out
 }
 
-// The cell at which the chain of a member's rounds begins and ends.
+// Gives the cell at which the chain of a member's rounds begins and ends.
 pub fn base(key: KeyPlace) -> u16
     ensures { λ r. ⌜ r ≡ baseOf (key .0) ⌝ }
 {
@@ -108,7 +108,7 @@ pub fn base(key: KeyPlace) -> u16
     if k < 64511 { 1024 + k } else { 65535 }
 }
 
-// The place of a member's first round.
+// Gives the place of a member's first round.
 pub fn head(next_index: &IndexLinks, key: KeyPlace) -> ValuePlace
     ensures { λ r. ⌜ r .0 ≡ at (now («next_index» .entry)) (baseOf (key .0)) ⌝ }
 {
@@ -116,33 +116,35 @@ pub fn head(next_index: &IndexLinks, key: KeyPlace) -> ValuePlace
     ValuePlace(links::get(next_index, cell))
 }
 
-// The place after x, in the list of rounds or in a member's chain.
+// Gives the place after x, in the list of rounds or in a member's chain.
 pub fn after(next: &[u16], x: ValuePlace) -> ValuePlace
     ensures { λ r. ⌜ r .0 ≡ at (now (next .entry)) (x .0) ⌝ }
 {
     ValuePlace(links::get(next, x.0))
 }
 
-// The place of the member whose round stands at x.
+// Gives the place of the member whose round stands at x.
 pub fn owner(key_index: &KeyIndex, x: ValuePlace) -> KeyPlace
     ensures { λ r. ⌜ r .0 ≡ at (now («key_index» .entry)) (x .0) ⌝ }
 {
     KeyPlace(links::get(key_index, x.0))
 }
 
-// The member number in a member place, its number of rounds, and the round in a round place.
+// Gives the member number in a member place.
 pub fn member(keys: &Keys, key: KeyPlace) -> u64
     ensures { λ r. ⌜ r ≡ at (now (keys .entry)) (key .0) ⌝ }
 {
     links::get_wide(keys, key.0)
 }
 
+// Gives the number of rounds of the member in a member place.
 pub fn size(lengths: &Lengths, key: KeyPlace) -> u16
     ensures { λ r. ⌜ r ≡ at (now (lengths .entry)) (key .0) ⌝ }
 {
     links::get(lengths, key.0)
 }
 
+// Gives the round in a round place.
 pub fn round(values: &Values, x: ValuePlace) -> u64
     ensures { λ r. ⌜ r ≡ at (now (values .entry)) (x .0) ⌝ }
 {

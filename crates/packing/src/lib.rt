@@ -59,7 +59,7 @@ pub extern "C" fn om_new(
     );
 }
 
-// `clear`. T stays.
+// Empties the map. T stays.
 #[rattlefmt::skip]
 #[no_mangle]
 pub extern "C" fn om_clear(
@@ -81,7 +81,7 @@ pub extern "C" fn om_clear(
     answers::tell(answer, Answer::Done);
 }
 
-// `pack_to`: the i-th pair stands in the round place i afterwards, and the i-th member in the member place i.
+// Moves the i-th pair to the round place i, and the i-th member to the member place i.
 #[rattlefmt::skip]
 #[no_mangle]
 pub extern "C" fn om_pack_to(
@@ -118,7 +118,7 @@ pub extern "C" fn om_pack_to(
     answers::tell(answer, Answer::Done);
 }
 
-// Whether a minimum is below what is held.
+// Says whether a minimum is below what is held.
 fn is_below(minimum: u64, counts: &Counts) -> bool
     ensures { λ r. ⌜ r ≡ ltb minimum (at (now (counts .entry)) 0) ⌝ }
 {
@@ -126,7 +126,7 @@ fn is_below(minimum: u64, counts: &Counts) -> bool
     minimum < held as u64
 }
 
-// Whether a minimum is above what a map can hold.
+// Says whether a minimum is above what a map can hold.
 fn is_above(keys_minimum: u64, values_minimum: u64) -> bool
     ensures { λ r. ⌜ r ≡ (ltb maxMembers «keys_minimum» || ltb maxRounds «values_minimum») ⌝ }
 {

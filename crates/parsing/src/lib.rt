@@ -30,7 +30,7 @@ pub fn read_number(s: &[u8]) -> Number
     Number::Value(value)
 }
 
-// Whether each byte is a mark.
+// Says whether each byte is a mark.
 pub fn are_marks(s: &[u8]) -> bool
     ensures { λ r. ⌜ r ≡ Line.all Line.isMark (now (s .entry)) ⌝ }
 {
@@ -47,7 +47,7 @@ pub fn are_marks(s: &[u8]) -> bool
     true
 }
 
-// How many bytes stand before the first b.
+// Counts the bytes before the first b.
 pub fn gap(s: &[u8], b: u8) -> usize
     ensures { λ r. ⌜ r ≡ gapOf b (now (s .entry)) ⌝ }
 {
@@ -144,7 +144,7 @@ pub fn take_line(chunk: &[u8], line: &mut [u8], held: usize) -> Taken
     }
 }
 
-// One digit more: No where the byte is none, or the value is not below 2^64.
+// Adds one digit: No where the byte is none, or the value is not below 2^64.
 fn add_digit(value: u64, b: u8) -> Number
     ensures { λ r. ⌜ ((bs : List ℕ) → followed r bs ≡ Line.numberFrom value (b ∷ bs)) ⌝ }
     ensures { λ r. ⌜ below r ⌝ }
@@ -166,7 +166,7 @@ fn add_digit(value: u64, b: u8) -> Number
     Number::Value(tens + digit)
 }
 
-// A letter alone.
+// Reads a letter alone.
 fn alone(c: u8) -> Request
     ensures { λ r. ⌜ told r (c ∷ []) ≡ Line.alone c ⌝ }
 {
@@ -180,7 +180,7 @@ fn alone(c: u8) -> Request
     }
 }
 
-// A letter and a field.
+// Reads a letter and a field.
 fn with_one(c: u8, x: &[u8]) -> Request
     ensures { λ r. ⌜ told r (c ∷ (32 ∷ now (x .entry))) ≡ Line.with-one c (now (x .entry)) ⌝ }
 {
@@ -203,7 +203,7 @@ fn with_one(c: u8, x: &[u8]) -> Request
     Request::Bad
 }
 
-// A letter and two fields.
+// Reads a letter and two fields.
 fn with_two(c: u8, x: &[u8], y: &[u8]) -> Request
     ensures { λ r. ⌜ ((l : List ℕ) → told r l ≡ Line.with-two c (now (x .entry)) (now (y .entry))) ⌝ }
 {
@@ -222,7 +222,7 @@ fn with_two(c: u8, x: &[u8], y: &[u8]) -> Request
     }
 }
 
-// A letter and the fields after its space.
+// Reads a letter and the fields after its space.
 fn with_fields(c: u8, rest: &[u8]) -> Request
     ensures { λ r. ⌜ told r (c ∷ (32 ∷ now (rest .entry))) ≡ Line.fielded c (Line.fields (now (rest .entry))) ⌝ }
 {

@@ -85,7 +85,7 @@ pub fn print_pairs(
     print_list(out, n, members, rounds)
 }
 
-// What is printed for a line that asks nothing.
+// Prints what a line gets that asks nothing.
 pub fn print_bad(out: &mut [u8]) -> usize
     ensures { λ r. ⌜ Prints (now (out .entry)) Reply.badText (now (out .exit)) r ⌝ }
 {
@@ -127,7 +127,7 @@ fn print_present(out: &mut [u8], was: bool) -> usize
     }
 }
 
-// `pop`, the member, the round, and whether the member is gone.
+// Prints `pop`, the member, the round, and whether the member is gone.
 fn print_pair(out: &mut [u8], k: u64, v: u64, gone: bool) -> usize
     requires { ⌜ Roomy (now out) ⌝ }
     ensures { λ r. ⌜ Said (now (out .entry)) (Reply.textOf (Reply.kept (lend [] [])) (popped k v gone)) (now (out .exit)) r ⌝ }
@@ -142,7 +142,7 @@ fn print_pair(out: &mut [u8], k: u64, v: u64, gone: bool) -> usize
     }
 }
 
-// `old`, the count and the rounds.
+// Prints `old`, the count and the rounds.
 fn print_rounds(out: &mut [u8], n: u64, rounds: &[u64]) -> usize
     requires { ⌜ Roomy (now out) × (length (now rounds) ≤ 1024) ⌝ }
     ensures { λ r. ⌜ Said (now (out .entry)) (Reply.old (lend (now (rounds .entry)) []) n) (now (out .exit)) r ⌝ }
@@ -152,7 +152,7 @@ fn print_rounds(out: &mut [u8], n: u64, rounds: &[u64]) -> usize
     put_values(out, at, &rounds[..many])
 }
 
-// `keys` and the members.
+// Prints `keys` and the members.
 fn print_keys(out: &mut [u8], n: u64, members: &[u64]) -> usize
     requires { ⌜ Roomy (now out) × (length (now members) ≤ 1024) ⌝ }
     ensures { λ r. ⌜ Said (now (out .entry)) (Reply.keyed (lend (now (members .entry)) []) n) (now (out .exit)) r ⌝ }
@@ -162,7 +162,7 @@ fn print_keys(out: &mut [u8], n: u64, members: &[u64]) -> usize
     put_values(out, at, &members[..many])
 }
 
-// `list` and the pairs.
+// Prints `list` and the pairs.
 fn print_list(out: &mut [u8], n: u64, members: &[u64], rounds: &[u64]) -> usize
     requires { ⌜ Roomy (now out) × (length (now members) ≤ 1024) × (length (now members) ≡ length (now rounds)) ⌝ }
     ensures { λ r. ⌜ Said (now (out .entry)) (Reply.listed (lend (now (members .entry)) (now (rounds .entry))) n) (now (out .exit)) r ⌝ }

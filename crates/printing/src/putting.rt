@@ -18,7 +18,7 @@ pub(crate) fn put(out: &mut [u8], at: usize, bytes: &[u8]) -> usize
     at + i
 }
 
-// In base ten.
+// Writes a number in base ten.
 pub(crate) fn put_number(out: &mut [u8], at: usize, n: u64) -> usize
     requires { ⌜ at + 20 ≤ length (now out) ⌝ }
     ensures { λ r. ⌜ Put (now (out .entry)) at (Text.decimal n) (now (out .exit)) r ⌝ }
@@ -28,7 +28,7 @@ pub(crate) fn put_number(out: &mut [u8], at: usize, n: u64) -> usize
     put(out, at, &text[..k])
 }
 
-// After a byte: a space or a colon.
+// Writes a number after a byte: a space or a colon.
 pub(crate) fn put_after(out: &mut [u8], at: usize, mark: u8, n: u64) -> usize
     requires { ⌜ at + 21 ≤ length (now out) ⌝ }
     ensures { λ r. ⌜ Put (now (out .entry)) at (mark ∷ Text.decimal n) (now (out .exit)) r ⌝ }
@@ -37,7 +37,7 @@ pub(crate) fn put_after(out: &mut [u8], at: usize, mark: u8, n: u64) -> usize
     put_number(out, at + 1, n)
 }
 
-// Each number after a space.
+// Writes each number after a space.
 pub(crate) fn put_values(out: &mut [u8], at: usize, values: &[u64]) -> usize
     requires { ⌜ at + 21 * length (now values) ≤ length (now out) ⌝ }
     ensures { λ r. ⌜ Put (now (out .entry)) at (Text.values (now (values .entry))) (now (out .exit)) r ⌝ }
@@ -51,7 +51,7 @@ pub(crate) fn put_values(out: &mut [u8], at: usize, values: &[u64]) -> usize
     place
 }
 
-// Each member and its round after a space, with a colon between.
+// Writes each member and its round after a space, with a colon between.
 pub(crate) fn put_pairs(out: &mut [u8], at: usize, members: &[u64], rounds: &[u64]) -> usize
     requires { ⌜ (length (now members) ≡ length (now rounds)) × (at + 42 * length (now members) ≤ length (now out)) ⌝ }
     ensures { λ r. ⌜ Put (now (out .entry)) at (Text.pairs (now (members .entry)) (now (rounds .entry))) (now (out .exit)) r ⌝ }

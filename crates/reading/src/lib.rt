@@ -179,7 +179,7 @@ pub extern "C" fn om_taken(taken: &u32, answer: &mut [u64; 4])
     answers::tell(answer, Answer::Count(n));
 }
 
-// The member's entry: `Occupied` with how many rounds it has, or `Vacant` with the number that is no member.
+// Tells the member's entry: `Occupied` with how many rounds it has, or `Vacant` with the number that is no member.
 pub fn entry<'a>(keys: &'a Keys, lengths: &'a Lengths, index: &'a Index, k: u64) -> Answer
     ensures { λ r. ⌜ answerOf r ≡ entryIn (now (keys .entry)) (now (lengths .entry)) (now (index .entry)) k ⌝ }
 {

@@ -91,7 +91,7 @@ pub fn read_image(bytes: &[u8]) -> Reply
     Reply { map, answer }
 }
 
-// Whether a map is well-linked, whatever its arrays hold.
+// Says whether a map is well-linked, whatever its arrays hold.
 #[rattlefmt::skip]
 pub fn well_linked(m: ListOrderedMultimap) -> Checked
     ensures { λ r. ⌜ Decides (r .yes) (WellLinked (arraysOf m)) × (r .map ≡ m) ⌝ }

@@ -102,7 +102,7 @@ fn either(a: bool, b: bool) -> bool
     if a { true } else { b }
 }
 
-// Whether the call has an out slice.
+// Says whether the call has an out slice.
 fn lends(op: u64) -> bool
     ensures { λ r. ⌜ r ≡ lendsOf op ⌝ }
 {
@@ -110,7 +110,7 @@ fn lends(op: u64) -> bool
     either(op == 2, either(op == 4, either(op == 16, last)))
 }
 
-// Whether there is such a call, with slices and marks only where it has them.
+// Says whether there is such a call, with slices and marks only where it has them.
 fn known(h: Head) -> bool
     ensures { λ r. ⌜ r ≡ knownHead h ⌝ }
 {
@@ -121,7 +121,7 @@ fn known(h: Head) -> bool
     both(op < 24, both(out, both(out2, marks)))
 }
 
-// Whether its slices and marks are all there, and room for its answer.
+// Says whether its slices and marks are all there, and room for its answer.
 fn fits(h: Head, room: u64, room2: u64, room3: u64, space: u64) -> bool
     ensures { λ r. ⌜ r ≡ fitsHead h room room2 room3 space ⌝ }
 {

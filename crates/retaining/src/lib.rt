@@ -60,7 +60,7 @@ pub extern "C" fn om_retain(
     answers::tell(answer, Answer::Count(n));
 }
 
-// How many marks are `which`, of no more than a count of 16 bits holds.
+// Counts the marks that are `which`, of no more than a count of 16 bits holds.
 fn count(marks: &[u8], which: u8) -> u16
     requires { ⌜ length (now marks) ≤ 65535 ⌝ }
     ensures { λ r. ⌜ r ≡ times (eqb which) (now (marks .entry)) ⌝ }
@@ -75,7 +75,7 @@ fn count(marks: &[u8], which: u8) -> u16
     n
 }
 
-// 1 where a mark is `which`, else 0.
+// Gives 1 where a mark is `which`, else 0.
 fn one_if(mark: u8, which: u8) -> u16
     ensures { λ r. ⌜ r ≡ bit (eqb which mark) ⌝ }
 {

@@ -7,7 +7,7 @@ ghost use Rattle.parsing.specs.Split.{Held};
 ghost use Rattle.tapes.specs.Parts.{partOf, restOf, only, grown, numbersOf, marksOf};
 ghost use mathlib.Core.Bool.{_&&_, not};
 
-// The bytes before the first semicolon.
+// Refers to the bytes before the first semicolon.
 pub(crate) fn part(s: &[u8]) -> &[u8]
     ensures { λ r. ⌜ now r ≡ partOf (now (s .entry)) ⌝ }
 {
@@ -15,7 +15,7 @@ pub(crate) fn part(s: &[u8]) -> &[u8]
     &s[..n]
 }
 
-// The bytes after it.
+// Refers to the bytes after the first semicolon.
 pub(crate) fn rest(s: &[u8]) -> &[u8]
     ensures { λ r. ⌜ now r ≡ restOf (now (s .entry)) ⌝ }
 {
@@ -70,7 +70,7 @@ fn digit_of(b: u8) -> u8
     if b < b'0' { 0 } else { b - b'0' }
 }
 
-// The number with one digit more; 0 where the byte is none.
+// Adds one digit to the number; 0 where the byte is none.
 fn grow(digit: bool, n: u64, b: u8) -> u64
     ensures { λ r. ⌜ r ≡ grown digit n b ⌝ }
 {

@@ -7,7 +7,7 @@ ghost use Rattle.printing.specs.Text.{decimal};
 ghost use Rattle.parsing.specs.Split.{Held};
 ghost use Rattle.tapes.specs.Printed.{separator as separatorOf, rows};
 
-// A byte, and a number in base ten.
+// Writes a byte, and a number in base ten.
 pub(crate) fn put_after(out: &mut [u8], at: usize, mark: u8, n: u64) -> usize
     ensures { λ r. ⌜ Held (mark ∷ decimal n) (now (out .entry)) at (now (out .exit)) r ⌝ }
 {
@@ -18,7 +18,7 @@ pub(crate) fn put_after(out: &mut [u8], at: usize, mark: u8, n: u64) -> usize
     parsing::hold(&text[..k], out, next)
 }
 
-// The numbers in lines of `width`, each line after a line end.
+// Writes the numbers in lines of `width`, each line after a line end.
 pub(crate) fn put_rows(out: &mut [u8], at: usize, values: &[u64], width: usize) -> usize
     requires { ⌜ (0 < width) × (at ≤ length (now out)) ⌝ }
     ensures { λ r. ⌜ Held (rows width 0 (now (values .entry))) (now (out .entry)) at (now (out .exit)) r ⌝ }

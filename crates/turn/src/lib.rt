@@ -54,7 +54,7 @@ pub extern "C" fn om_call(
     );
 }
 
-// These only read.
+// Makes a call that only reads.
 #[rattlefmt::skip]
 fn read_from_16<'a>(
     keys: &'a Keys, lengths: &'a Lengths, next_key: &'a KeyLinks, values: &'a Values, key_index: &'a KeyIndex, next_value: &'a ValueLinks,

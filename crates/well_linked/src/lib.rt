@@ -25,7 +25,7 @@ ghost use Rattle.well_linked.specs.Chains.{trail, Inside, Begun, Walked,
 ghost use Rattle.well_linked.specs.Marks.{Marks, listOf};
 ghost use Rattle.well_linked.specs.Told.{Tells};
 
-// Whether a map is well-linked.
+// Says whether a map is well-linked.
 #[rattlefmt::skip]
 pub fn well_linked<'a>(
     keys: &'a Keys, lengths: &'a Lengths, next_key: &'a KeyLinks, previous_key: &'a KeyLinks,
@@ -88,8 +88,8 @@ fn shown<'a>(
     taken: u32,
 ) {}
 
-// Whether a list of places is linked that begins and ends at the cell `root`. The counts are how many places are in use, how many have ever
-// been, and the first freed one.
+// Says whether a list of places is linked that begins and ends at the cell `root`. The counts are how many places are in use, how many
+// have ever been, and the first freed one.
 fn list_linked<'a>(next: &'a [u16], previous: &'a [u16], root: u16, counts: &'a Counts) -> bool
     requires { ⌜ (root < length (now next)) × (length (now previous) ≡ length (now next)) × (root ≤ 1024) ⌝ }
     ensures { λ r. ⌜ Decides r (Linked (listOf (now (next .entry)) (now (previous .entry)) root (now (counts .entry)))) ⌝ }
@@ -137,7 +137,7 @@ fn mark(next: &[u16], from: u16, many: u16, fresh: u16, met: &mut [bool]) -> boo
     true
 }
 
-// Whether `previous` leads back along the `many` places that follow the end cell `root` by `next`, and the last of them leads to it.
+// Says whether `previous` leads back along the `many` places that follow the end cell `root` by `next`, and the last of them leads to it.
 fn both_ways<'a>(next: &'a [u16], previous: &'a [u16], root: u16, many: u16) -> bool
     requires { ⌜ (root < length (now next)) × (length (now previous) ≡ length (now next))
         × ((q : ℕ) → 0 < tally q (walk (at (now next)) (at (now next) root) many) → q < length (now next)) ⌝ }
@@ -166,7 +166,7 @@ fn both_ways<'a>(next: &'a [u16], previous: &'a [u16], root: u16, many: u16) -> 
     true
 }
 
-// Whether each round has a member place in use, and each of these a chain of its rounds, its length and at least one round.
+// Says whether each round has a member place in use, and each of these a chain of its rounds, its length and at least one round.
 fn chains_linked<'a>(
     lengths: &'a Lengths,
     key_index: &'a KeyIndex,
@@ -197,7 +197,7 @@ fn chains_linked<'a>(
     ends_meet(lengths, next_index, previous_index, used, &tail, &many)
 }
 
-// The cells at which the members' chains begin.
+// Gives the cells at which the members' chains begin.
 fn bases() -> [u16; 256]
     ensures { λ r. ⌜ ((k : ℕ) → k < 256 → at r k ≡ 1024 + k) ⌝ }
 {
@@ -257,7 +257,7 @@ fn follow_chains<'a>(
     true
 }
 
-// Whether each chain of a member place in use ends at its base, and its length is its number of rounds, of which there are some.
+// Says whether each chain of a member place in use ends at its base, and its length is its number of rounds, of which there are some.
 fn ends_meet<'a>(
     lengths: &'a Lengths,
     next_index: &'a IndexLinks,
