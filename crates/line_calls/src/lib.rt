@@ -109,7 +109,7 @@ pub fn front(
     ensures { λ α r. ⌜ Replied (Line.front) α (now (out .entry)) (now (out .exit)) (left keys lengths «next_key» «previous_key» values «key_index» «next_value» «previous_value» «next_index» «previous_index» index members rounds taken) r ⌝ }
 {
     let mut told = [0u64; 4];
-    removing::om_pop_front(
+    popping::om_pop_front(
         keys, lengths, next_key, previous_key, values, key_index, next_value, previous_value,
         next_index, previous_index, index, members, rounds, taken, &mut told,
     );
@@ -131,7 +131,7 @@ pub fn back(
     ensures { λ α r. ⌜ Replied (Line.back) α (now (out .entry)) (now (out .exit)) (left keys lengths «next_key» «previous_key» values «key_index» «next_value» «previous_value» «next_index» «previous_index» index members rounds taken) r ⌝ }
 {
     let mut told = [0u64; 4];
-    removing::om_pop_back(
+    popping_back::om_pop_back(
         keys, lengths, next_key, previous_key, values, key_index, next_value, previous_value,
         next_index, previous_index, index, members, rounds, taken, &mut told,
     );

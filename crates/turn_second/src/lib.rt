@@ -39,11 +39,11 @@ pub fn call_below_16(
             keys, lengths, next_key, previous_key, values, key_index, next_value, previous_value,
             next_index, previous_index, index, members, rounds, taken, k, v, answer,
         ),
-        10 => removing::om_pop_front(
+        10 => popping::om_pop_front(
             keys, lengths, next_key, previous_key, values, key_index, next_value, previous_value,
             next_index, previous_index, index, members, rounds, taken, answer,
         ),
-        11 => removing::om_pop_back(
+        11 => popping_back::om_pop_back(
             keys, lengths, next_key, previous_key, values, key_index, next_value, previous_value,
             next_index, previous_index, index, members, rounds, taken, answer,
         ),

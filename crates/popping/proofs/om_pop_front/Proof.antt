@@ -1,8 +1,8 @@
--- `removing::om_pop_front` meets its contract. Assumes nothing.
+-- `popping::om_pop_front` meets its contract. Assumes nothing.
 use mathlib.Core.Bool.{true}
 use borrow.Author.Needs.{needs}
-use Rattle.removing.proofs.om_pop_front.Statement.{statement}
-use Rattle.removing.proofs.om_pop_front.Tie as tie
+use Rattle.popping.proofs.om_pop_front.Statement.{statement}
+use Rattle.popping.proofs.om_pop_front.Tie as tie
 
 after-requires : tie.Need-after-requires
 after-requires c κs = search needs

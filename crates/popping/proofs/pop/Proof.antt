@@ -1,9 +1,9 @@
--- `removing::pop` meets its contract. Assumes nothing.
+-- `popping::pop` meets its contract. Assumes nothing.
 use Rattle.multimap.specs.Arrays.{Arrays, arrays}
 use Rattle.multimap.proofs.Leaves.{told-none, told-pop}
 use borrow.Author.Needs.{needs}
-use Rattle.removing.proofs.pop.Statement.{statement}
-use Rattle.removing.proofs.pop.Tie as tie
+use Rattle.popping.proofs.pop.Statement.{statement}
+use Rattle.popping.proofs.pop.Tie as tie
 
 abbrev given : tie.Start → Arrays
 given s =

@@ -1,8 +1,8 @@
--- `removing::om_pop_back` meets its contract. Assumes nothing.
+-- `popping_back::om_pop_back` meets its contract. Assumes nothing.
 use mathlib.Core.Bool.{false}
 use borrow.Author.Needs.{needs}
-use Rattle.removing.proofs.om_pop_back.Statement.{statement}
-use Rattle.removing.proofs.om_pop_back.Tie as tie
+use Rattle.popping_back.proofs.om_pop_back.Statement.{statement}
+use Rattle.popping_back.proofs.om_pop_back.Tie as tie
 
 after-requires : tie.Need-after-requires
 after-requires c κs = search needs
