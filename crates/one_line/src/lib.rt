@@ -10,7 +10,6 @@ use multimap::ValueLinks;
 use multimap::Values;
 use parsing::Request;
 use printing::MAX_PRINTED;
-ghost use Prim.Native.Nat.{min};
 ghost use mathlib.Core.Path.{_≡_};
 ghost use Rattle.multimap.specs.Arrays.{Arrays};
 ghost use Rattle.multimap.specs.Lent.{lent, left};
@@ -83,7 +82,7 @@ fn ask(
             next_index, previous_index, index, members, rounds, taken, out,
         ),
         Request::Keeps => {
-            let from = least(2, line.len());
+            let from = parsing::least(2, line.len());
             let bytes = &line[from..];
             line_calls::keeps(
                 keys, lengths, next_key, previous_key, values, key_index, next_value, previous_value,
@@ -94,10 +93,4 @@ fn ask(
         Request::Members => line_calls::members_line(keys, next_key, members, out),
         Request::Bad => printing::print_bad(out),
     }
-}
-
-fn least(a: usize, b: usize) -> usize
-    ensures { λ r. ⌜ r ≡ min a b ⌝ }
-{
-    if a < b { a } else { b }
 }

@@ -144,6 +144,13 @@ pub fn take_line(chunk: &[u8], line: &mut [u8], held: usize) -> Taken
     }
 }
 
+// Gives the lesser of the two.
+pub fn least(a: usize, b: usize) -> usize
+    ensures { λ r. ⌜ r ≡ min a b ⌝ }
+{
+    if a < b { a } else { b }
+}
+
 // Adds one digit: No where the byte is none, or the value is not below 2^64.
 fn add_digit(value: u64, b: u8) -> Number
     ensures { λ r. ⌜ ((bs : List ℕ) → followed r bs ≡ Line.numberFrom value (b ∷ bs)) ⌝ }
@@ -234,10 +241,4 @@ fn with_fields(c: u8, rest: &[u8]) -> Request
     let x = &rest[..n];
     let y = &rest[next..];
     with_two(c, x, y)
-}
-
-fn least(a: usize, b: usize) -> usize
-    ensures { λ r. ⌜ r ≡ min a b ⌝ }
-{
-    if a < b { a } else { b }
 }
