@@ -19,7 +19,7 @@ C = ROOT / 'bindings/c/prelgammo_declarations.h'
 DESCRIBED = ROOT / 'bindings/c/prelgammo.h'
 
 RECORD = 'ListOrderedMultimap'
-# The function whose parameters are the record's arrays, in order.
+# The function whose first parameters are the record's arrays, in order.
 WHOLE = 'om_new'
 # Of each type of number: its bytes, and its name in C.
 NUMBERS = {
@@ -243,12 +243,14 @@ class Sources:
         return Parameter(name, kind, self.type(element[1] if element else passed), 'mut' in access)
 
 
-# Lays the parameters of the function that is lent everything over the record's fields: each on a field of its type and name (or
-# that name's plural), or an array of n numbers on n fields of one.
+# Lays the parameters of the function that is lent everything over the record's fields, until each field has one: each on a field
+# of its type and name (or that name's plural), or an array of n numbers on n fields of one. The parameters after these are others.
 def arrays(fields, whole):
     found, rest = [], list(fields)
     for parameter in whole.parameters:
-        single = bool(rest) and rest[0].type == parameter.type and parameter.name in (rest[0].name, rest[0].name + 's')
+        if not rest:
+            break
+        single = rest[0].type == parameter.type and parameter.name in (rest[0].name, rest[0].name + 's')
         on, rest = (rest[:1], rest[1:]) if single else (rest[:parameter.type.length], rest[parameter.type.length:])
         if not single and [f.type for f in on] != [Type(parameter.type.number)] * max(parameter.type.length, 1):
             sys.exit(f'{whole.name}: {parameter} does not lie on fields of the record')
@@ -498,7 +500,7 @@ def c_gives(function):
 
 def c_declarations(library):
     whole = next(f for f in library.functions if f.name == WHOLE)
-    arrays = [f'CONST {words}' for words in c_parameters(whole.parameters)]
+    arrays = [f'CONST {words}' for words in c_parameters(whole.parameters[:len(library.arrays)])]
     lines = [c_declaration(library, function) for function in library.functions]
     return '\n'.join(['/* The functions of the library. They take the arrays of a map one by one. */',
                       c_macro('OM_ARRAYS(CONST)', arrays), '', *lines, '', '#undef OM_ARRAYS', ''])

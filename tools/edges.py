@@ -12,7 +12,7 @@ rounds, up to its ceiling, is proved of every list: `taken-counts` (crates/steps
 """
 import os
 
-from steps import MEMBERS, ROUNDS, Steps
+from steps import MEMBERS, ROUNDS, make
 
 TOP = 2**64 - 1
 CALLS = """append insert insert_all remove remove_all entry occupied_append occupied_insert occupied_remove_entry vacant_insert pop_front pop_back
@@ -31,10 +31,13 @@ def rows(width, values):
 
 
 class Calls:
-    """A list under construction. Each place of a slice holds a number of its own before the run, and the answers hold nines."""
+    """A list under construction, on a new map with limits. Each place of a slice holds a number of its own before the run, and the answers
+    hold nines."""
 
-    def __init__(self, name):
+    def __init__(self, name, members=MEMBERS, rounds=ROUNDS):
+        assert ";" not in name
         self.name = name
+        self.limits = (members, rounds)
         self.words = []
         self.numbers = []
         self.outs = []
@@ -42,7 +45,11 @@ class Calls:
         self.marks = []
         self.room = None
         # the steps after what is written so far, to size slices by
-        self.steps = Steps()
+        self.steps = self.new()
+
+    def new(self):
+        """The map that a list begins on: after a refused making it is there too."""
+        return make(*self.limits)[1]
 
     def raw(self, word, *six):
         self.words.append(word)
@@ -79,15 +86,15 @@ class Calls:
         lines = []
         for i in range(0, len(self.numbers), 6):
             lines.append(self.words[i // 6] + " " + numbers(self.numbers[i : i + 6]))
-        return "%s;\n%s\n; outs%s\n; second outs%s\n; marks%s\n; answers%s\n;" % (
-            self.name, "\n".join(lines), rows(32, self.outs), rows(32, self.outs2), rows(32, self.marks), rows(32, self.answers()))
+        return "%s; limits %s;\n%s\n; outs%s\n; second outs%s\n; marks%s\n; answers%s\n;" % (
+            self.name, numbers(self.limits), "\n".join(lines), rows(32, self.outs), rows(32, self.outs2), rows(32, self.marks), rows(32, self.answers()))
 
     def answers(self):
         return [9] * (4 * ((len(self.numbers) + 5) // 6) if self.room is None else self.room)
 
     def run(self):
         """What the program prints: the calls are run up to the first that is none, or whose slices, marks or room for an answer are missing."""
-        steps, answers, outs, outs2 = Steps(), self.answers(), list(self.outs), list(self.outs2)
+        steps, answers, outs, outs2 = self.new(), self.answers(), list(self.outs), list(self.outs2)
         at = at2 = mark = ran = 0
         while len(self.numbers) >= 6 * ran + 6:
             op, k, v, n, n2, n3 = self.numbers[6 * ran : 6 * ran + 6]
@@ -322,8 +329,8 @@ def taken():
     return calls
 
 
-def nothing_held():
-    calls = Calls("every call on the empty map")
+def nothing_held(name="every call on the empty map", *limits):
+    calls = Calls(name, *limits)
     for name in CALLS:
         calls.do(name, 7, 10, n=2 if name in LENDING else 0, n2=2 if name == "iter" else 0)
         calls.do("clear")
@@ -417,9 +424,99 @@ def malformed():
     yield calls
 
 
+# --- limits of a map's own
+
+def beside(limit, held):
+    """Minimums for pack_to: what is held, the limit, one below and one above either, and the largest number."""
+    return sorted({max(held - 1, 0), held, limit, limit + 1, TOP})
+
+
+def packing(calls):
+    """pack_to with every minimum beside what is held and beside the limits that the map has."""
+    steps = calls.steps
+    for k in beside(steps.most_members, len(steps.members)):
+        for v in beside(steps.most_rounds, len(steps.pairs)):
+            calls.do("pack_to", k, v)
+    # which are others after a refused making
+    calls.do("pack_to", *calls.limits)
+
+
+def overfill(calls, first):
+    """One round more than the limits that were asked for let in, of as many members; a few, where the limits are too high."""
+    members, rounds = (min(limit, 5) for limit in calls.limits)
+    calls.fill(rounds + 1, [first + i for i in range(members)] or [first])
+
+
+def own_limits(members, rounds):
+    calls = Calls("limits of %d members and %d rounds: filled to them, every adding call, pack_to beside them, and the same after clear" % (members, rounds), members, rounds)
+    for first in (1, 11):
+        overfill(calls, first)
+        packing(calls)
+        adding(calls, first, 7)
+        calls.sizes()
+        calls.show()
+        calls.do("clear")
+    calls.do("pack_to", 0, 0)
+    overfill(calls, 21)
+    calls.show()
+    return calls
+
+
+def one_limit_reached():
+    calls = Calls("limits of 2 members and 3 rounds: with 2 members and 2 rounds a new one gets 2, a known one passes, and with 3 rounds of one none does", 2, 3)
+    calls.fill(2, [1, 2])
+    adding(calls, 1, 3)
+    calls.show()
+    # the old pairs make way first, at the map's own limit too
+    calls.do("insert_all", 1, 5, n=2)
+    calls.do("insert", 2, 6)
+    calls.do("occupied_insert", 1, 7)
+    calls.show()
+    calls.do("clear")
+    calls.fill(3, [4])
+    adding(calls, 4, 5)
+    calls.do("pack_to", 1, 3)
+    adding(calls, 4, 5)
+    calls.do("insert", 4, 8)
+    calls.do("append", 5, 9)
+    calls.do("append", 6, 9)
+    calls.show()
+    return calls
+
+
+def own_limits_again(members, rounds):
+    calls = Calls("limits of %d members and %d rounds: fill, empty and fill again, and again after pack_to" % (members, rounds), members, rounds)
+    for turn, empty in enumerate((lambda: calls.do("pop_front"), lambda: calls.do("pop_back"), lambda: calls.do("remove", calls.steps.members[0]))):
+        overfill(calls, 10 * turn)
+        adding(calls, 10 * turn, 99)
+        while calls.steps.pairs:
+            empty()
+    overfill(calls, 30)
+    calls.do("retain", marks="01" * (rounds // 2) + "0" * (rounds % 2))
+    calls.do("pack_to", members, rounds)
+    overfill(calls, 40)
+    calls.show()
+    calls.do("retain", marks="0" * len(calls.steps.pairs))
+    calls.do("pack_to", 0, 0)
+    overfill(calls, 50)
+    calls.sizes()
+    calls.show()
+    return calls
+
+
+def with_limits():
+    for members, rounds in ((0, 0), (0, 5), (5, 0), (2, 3), (257, 5), (5, 1025), (TOP, TOP)):
+        yield own_limits(members, rounds)
+    yield nothing_held("every call on the empty map with both limits 0", 0, 0)
+    yield one_limit_reached()
+    for members, rounds in ((2, 3), (5, 5)):
+        yield own_limits_again(members, rounds)
+
+
 def lists():
     yield from (marked(), nothing_held(), refusals(), slices(), ends_of_numbers(), taken(), retained(), every_marks(), shared_places())
     yield from malformed()
+    yield from with_limits()
     yield from (most_rounds(), most_members(), both_full(), again())
 
 

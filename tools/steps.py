@@ -1,5 +1,5 @@
-"""Document 01's refusals and steps: the one model that the scripts beside it share. An answer is its four numbers, as in
-crates/steps/specs/Coded.antt."""
+"""Document 01's refusals and steps, with a map's own limits: the one model that the scripts beside it share. An answer is its four
+numbers, as in crates/steps/specs/Coded.antt."""
 ROUNDS, MEMBERS, CEILING = 1024, 256, 4294967295
 
 
@@ -23,11 +23,26 @@ def write(out, values):
     return count(len(values))
 
 
+def make(members, rounds):
+    """The answer to the making of a map with these limits, and the map."""
+    if members > MEMBERS or rounds > ROUNDS:
+        return refused(15), Steps(0, 0)
+    return DONE, Steps(members, rounds)
+
+
 class Steps:
-    def __init__(self):
+    def __init__(self, most_members=MEMBERS, most_rounds=ROUNDS):
+        self.most_members = most_members
+        self.most_rounds = most_rounds
         self.pairs = []
         self.members = []
         self.taken_in = 0
+
+    def full(self):
+        return len(self.pairs) >= self.most_rounds
+
+    def crowded(self):
+        return len(self.members) >= self.most_members
 
     def record(self, k):
         return [v for j, v in self.pairs if j == k]
@@ -57,8 +72,8 @@ class Steps:
         if name == "vacant_insert":
             yield 10, present
         if name in ("append", "occupied_append") or (name in ("insert", "insert_all", "vacant_insert") and not present):
-            yield 1, len(self.pairs) == ROUNDS
-            yield 2, not present and len(self.members) == MEMBERS
+            yield 1, self.full()
+            yield 2, not present and self.crowded()
         if name in ("insert_all", "remove_all", "get_all"):
             yield 3, len(out) < len(self.record(k))
         if name == "keys":
@@ -71,7 +86,7 @@ class Steps:
         if name == "pack_to":
             yield 4, k < len(self.members)
             yield 5, v < len(self.pairs)
-            yield 6, k > MEMBERS or v > ROUNDS
+            yield 6, k > self.most_members or v > self.most_rounds
 
     def call(self, name, k, v, out, out2, marks):
         """The answer's four numbers; the lent slices are written in place."""

@@ -23,9 +23,9 @@ struct om_map {
     uint16_t previous_index[1280];
     /* The index: member places, or EMPTY. */
     uint16_t index[512];
-    /* How many places are in use, how many have ever been, and the first freed one; the other freed ones follow by next. */
-    uint16_t members[3];
-    uint16_t rounds[3];
+    /* How many places are in use, how many have ever been, and the first freed one, from which the others follow by next; and how many may be in use. */
+    uint16_t members[4];
+    uint16_t rounds[4];
     /* Rounds ever taken in. */
     uint32_t taken;
 };
@@ -43,14 +43,14 @@ static_assert(offsetof(om_map, next_index) == 17932, "next_index");
 static_assert(offsetof(om_map, previous_index) == 20492, "previous_index");
 static_assert(offsetof(om_map, index) == 23052, "index");
 static_assert(offsetof(om_map, members) == 24076, "members");
-static_assert(offsetof(om_map, rounds) == 24082, "rounds");
-static_assert(offsetof(om_map, taken) == 24088, "taken");
+static_assert(offsetof(om_map, rounds) == 24084, "rounds");
+static_assert(offsetof(om_map, taken) == 24092, "taken");
 
 /* Defined by an archive of this layout and these signatures alone: another one does not link. */
-extern const unsigned char prelgammo_layout_b60310c2eb5b6487;
+extern const unsigned char prelgammo_layout_278b7ecbf7d83fc5;
 
 static inline void om_same_layout(void) {
-    (void)*(const volatile unsigned char *)&prelgammo_layout_b60310c2eb5b6487;
+    (void)*(const volatile unsigned char *)&prelgammo_layout_278b7ecbf7d83fc5;
 }
 
 /* The functions of the library. They take the arrays of a map one by one. */
@@ -58,8 +58,8 @@ static inline void om_same_layout(void) {
     CONST uint64_t keys[256], CONST uint16_t lengths[256], CONST uint16_t next_key[257],                              \
         CONST uint16_t previous_key[257], CONST uint64_t values[1024], CONST uint16_t key_index[1024],                \
         CONST uint16_t next_value[1025], CONST uint16_t previous_value[1025], CONST uint16_t next_index[1280],        \
-        CONST uint16_t previous_index[1280], CONST uint16_t index[512], CONST uint16_t members[3],                    \
-        CONST uint16_t rounds[3], CONST uint32_t *taken
+        CONST uint16_t previous_index[1280], CONST uint16_t index[512], CONST uint16_t members[4],                    \
+        CONST uint16_t rounds[4], CONST uint32_t *taken
 
 void om_append(OM_ARRAYS(), uint64_t k, uint64_t v, uint64_t answer[4]);
 void om_call(OM_ARRAYS(), uint64_t op, uint64_t k, uint64_t v, uint64_t *out, size_t out_len, uint64_t *out2,
@@ -78,19 +78,20 @@ void om_get_all(const uint64_t keys[256], const uint16_t lengths[256], const uin
 void om_insert(OM_ARRAYS(), uint64_t k, uint64_t v, uint64_t answer[4]);
 void om_insert_all(OM_ARRAYS(), uint64_t k, uint64_t v, uint64_t *out, size_t out_len, uint64_t answer[4]);
 void om_iter(const uint64_t keys[256], const uint64_t values[1024], const uint16_t key_index[1024],
-             const uint16_t next_value[1025], const uint16_t rounds[3], uint64_t *out, size_t out_len, uint64_t *out2,
+             const uint16_t next_value[1025], const uint16_t rounds[4], uint64_t *out, size_t out_len, uint64_t *out2,
              size_t out2_len, uint64_t answer[4]);
-void om_keys(const uint64_t keys[256], const uint16_t next_key[257], const uint16_t members[3], uint64_t *out,
+void om_keys(const uint64_t keys[256], const uint16_t next_key[257], const uint16_t members[4], uint64_t *out,
              size_t out_len, uint64_t answer[4]);
-void om_keys_len(const uint16_t members[3], uint64_t answer[4]);
-void om_new(OM_ARRAYS());
+void om_keys_len(const uint16_t members[4], uint64_t answer[4]);
+void om_new(OM_ARRAYS(), uint64_t members_limit, uint64_t rounds_limit, uint64_t answer[4]);
 void om_occupied_append(OM_ARRAYS(), uint64_t k, uint64_t v, uint64_t answer[4]);
 void om_occupied_insert(OM_ARRAYS(), uint64_t k, uint64_t v, uint64_t answer[4]);
 void om_occupied_remove_entry(OM_ARRAYS(), uint64_t k, uint64_t answer[4]);
 void om_pack_to(OM_ARRAYS(), uint64_t keys_minimum, uint64_t values_minimum, uint64_t answer[4]);
 void om_pop_back(OM_ARRAYS(), uint64_t answer[4]);
 void om_pop_front(OM_ARRAYS(), uint64_t answer[4]);
-void om_read_image(OM_ARRAYS(), const uint8_t *bytes, size_t bytes_len, uint64_t answer[4]);
+void om_read_image(OM_ARRAYS(), uint64_t members_limit, uint64_t rounds_limit, const uint8_t *bytes, size_t bytes_len,
+                   uint64_t answer[4]);
 void om_remove(OM_ARRAYS(), uint64_t k, uint64_t answer[4]);
 void om_remove_all(OM_ARRAYS(), uint64_t k, uint64_t *out, size_t out_len, uint64_t answer[4]);
 void om_retain(OM_ARRAYS(), const uint8_t *marks, size_t marks_len, uint64_t answer[4]);
@@ -98,13 +99,14 @@ void om_taken(const uint32_t *taken, uint64_t answer[4]);
 om_map om_turn(om_map m, uint64_t op, uint64_t k, uint64_t v, uint64_t *out, size_t out_len, uint64_t *out2,
                size_t out2_len, const uint8_t *marks, size_t marks_len, uint64_t answer[4]);
 void om_vacant_insert(OM_ARRAYS(), uint64_t k, uint64_t v, uint64_t answer[4]);
-void om_values_len(const uint16_t rounds[3], uint64_t answer[4]);
+void om_values_len(const uint16_t rounds[4], uint64_t answer[4]);
 uint64_t om_well_linked(OM_ARRAYS(const));
 void om_write_image(const uint64_t keys[256], const uint64_t values[1024], const uint16_t key_index[1024],
-                    const uint16_t next_value[1025], const uint16_t members[3], const uint16_t rounds[3], uint8_t *out,
+                    const uint16_t next_value[1025], const uint16_t members[4], const uint16_t rounds[4], uint8_t *out,
                     size_t out_len, uint64_t answer[4]);
-uint64_t replay(const uint64_t *calls, size_t calls_len, uint64_t *outs, size_t outs_len, uint64_t *outs2,
-                size_t outs2_len, const uint8_t *marks, size_t marks_len, uint64_t *answers, size_t answers_len);
+uint64_t replay(uint64_t members_limit, uint64_t rounds_limit, const uint64_t *calls, size_t calls_len, uint64_t *outs,
+                size_t outs_len, uint64_t *outs2, size_t outs2_len, const uint8_t *marks, size_t marks_len,
+                uint64_t *answers, size_t answers_len);
 
 #undef OM_ARRAYS
 
@@ -192,9 +194,11 @@ static inline om_said om_map_keys_len(const om_map *m) {
     return said;
 }
 
-static inline void om_map_new(om_map *m) {
+static inline om_said om_map_new(om_map *m, uint64_t members_limit, uint64_t rounds_limit) {
+    om_said said;
     om_same_layout();
-    om_new(OM_LENT);
+    om_new(OM_LENT, members_limit, rounds_limit, said.answer);
+    return said;
 }
 
 static inline om_said om_map_occupied_append(om_map *m, uint64_t k, uint64_t v) {
@@ -233,10 +237,11 @@ static inline om_said om_map_pop_front(om_map *m) {
     return said;
 }
 
-static inline om_said om_map_read_image(om_map *m, const uint8_t *bytes, size_t bytes_len) {
+static inline om_said om_map_read_image(om_map *m, uint64_t members_limit, uint64_t rounds_limit, const uint8_t *bytes,
+                                        size_t bytes_len) {
     om_said said;
     om_same_layout();
-    om_read_image(OM_LENT, bytes, bytes_len, said.answer);
+    om_read_image(OM_LENT, members_limit, rounds_limit, bytes, bytes_len, said.answer);
     return said;
 }
 

@@ -29,13 +29,15 @@ pub struct Record {
     pub previous_index: [u16; 1280],
     // The index: member places, or EMPTY.
     pub index: [u16; 512],
-    // How many places are in use, how many have ever been, and the first freed one; the other freed ones follow by next.
+    // How many places are in use, how many have ever been, and the first freed one, from which the others follow by next; and how many may be in use.
     pub keys_len: u16,
     pub keys_fresh: u16,
     pub keys_free: u16,
+    pub keys_limit: u16,
     pub values_len: u16,
     pub values_fresh: u16,
     pub values_free: u16,
+    pub values_limit: u16,
     // Rounds ever taken in.
     pub taken: u32,
 }
@@ -44,12 +46,12 @@ const _: () = assert!(core::mem::size_of::<Record>() == 24_096);
 
 extern "C" {
     // Defined by an archive of this layout and these signatures alone.
-    static prelgammo_layout_b60310c2eb5b6487: u8;
+    static prelgammo_layout_278b7ecbf7d83fc5: u8;
 }
 
 // Has the program refer to the layout's symbol.
 fn same_layout() {
-    unsafe { addr_of!(prelgammo_layout_b60310c2eb5b6487).read_volatile() };
+    unsafe { addr_of!(prelgammo_layout_278b7ecbf7d83fc5).read_volatile() };
 }
 
 // Declares functions that are lent all of the arrays and then take these arguments, and beside each the one of a record.
@@ -69,8 +71,8 @@ macro_rules! lent_all {
                 next_index: *$access [u16; 1280],
                 previous_index: *$access [u16; 1280],
                 index: *$access [u16; 512],
-                members: *$access [u16; 3],
-                rounds: *$access [u16; 3],
+                members: *$access [u16; 4],
+                rounds: *$access [u16; 4],
                 taken: *$access u32,
                 $($argument: $type),*
             ) $(-> $given)?;)*
@@ -89,8 +91,8 @@ macro_rules! lent_all {
                 $pointer_to!((*record).next_index),
                 $pointer_to!((*record).previous_index),
                 $pointer_to!((*record).index),
-                $pointer_to!((*record).keys_len).cast::<[u16; 3]>(),
-                $pointer_to!((*record).values_len).cast::<[u16; 3]>(),
+                $pointer_to!((*record).keys_len).cast::<[u16; 4]>(),
+                $pointer_to!((*record).values_len).cast::<[u16; 4]>(),
                 $pointer_to!((*record).taken),
                 $($argument),*
             )
@@ -99,8 +101,14 @@ macro_rules! lent_all {
 }
 
 lent_all! { mut addr_of_mut { same_layout() }
-    new om_new();
-    read_image om_read_image(bytes: *const u8, bytes_len: usize, answer: *mut [u64; 4]);
+    new om_new(members_limit: u64, rounds_limit: u64, answer: *mut [u64; 4]);
+    read_image om_read_image(
+        members_limit: u64,
+        rounds_limit: u64,
+        bytes: *const u8,
+        bytes_len: usize,
+        answer: *mut [u64; 4]
+    );
 }
 
 lent_all! { const addr_of { same_layout() }
@@ -176,7 +184,7 @@ extern "C" {
         values: *const [u64; 1024],
         key_index: *const [u16; 1024],
         next_value: *const [u16; 1025],
-        rounds: *const [u16; 3],
+        rounds: *const [u16; 4],
         out: *mut u64,
         out_len: usize,
         out2: *mut u64,
@@ -186,12 +194,12 @@ extern "C" {
     fn om_keys(
         keys: *const [u64; 256],
         next_key: *const [u16; 257],
-        members: *const [u16; 3],
+        members: *const [u16; 4],
         out: *mut u64,
         out_len: usize,
         answer: *mut [u64; 4],
     );
-    fn om_keys_len(members: *const [u16; 3], answer: *mut [u64; 4]);
+    fn om_keys_len(members: *const [u16; 4], answer: *mut [u64; 4]);
     fn om_taken(taken: *const u32, answer: *mut [u64; 4]);
     // Gives a record back, for which the caller passes a pointer first (System V, amd64).
     pub fn om_turn(
@@ -208,19 +216,21 @@ extern "C" {
         marks_len: usize,
         answer: *mut [u64; 4],
     );
-    fn om_values_len(rounds: *const [u16; 3], answer: *mut [u64; 4]);
+    fn om_values_len(rounds: *const [u16; 4], answer: *mut [u64; 4]);
     fn om_write_image(
         keys: *const [u64; 256],
         values: *const [u64; 1024],
         key_index: *const [u16; 1024],
         next_value: *const [u16; 1025],
-        members: *const [u16; 3],
-        rounds: *const [u16; 3],
+        members: *const [u16; 4],
+        rounds: *const [u16; 4],
         out: *mut u8,
         out_len: usize,
         answer: *mut [u64; 4],
     );
     pub fn replay(
+        members_limit: u64,
+        rounds_limit: u64,
         calls: *const u64,
         calls_len: usize,
         outs: *mut u64,
@@ -284,7 +294,7 @@ pub unsafe fn iter(
         addr_of!((*record).values),
         addr_of!((*record).key_index),
         addr_of!((*record).next_value),
-        addr_of!((*record).values_len).cast::<[u16; 3]>(),
+        addr_of!((*record).values_len).cast::<[u16; 4]>(),
         out,
         out_len,
         out2,
@@ -297,7 +307,7 @@ pub unsafe fn keys(record: *const Record, out: *mut u64, out_len: usize, answer:
     om_keys(
         addr_of!((*record).keys),
         addr_of!((*record).next_key),
-        addr_of!((*record).keys_len).cast::<[u16; 3]>(),
+        addr_of!((*record).keys_len).cast::<[u16; 4]>(),
         out,
         out_len,
         answer,
@@ -305,7 +315,7 @@ pub unsafe fn keys(record: *const Record, out: *mut u64, out_len: usize, answer:
 }
 
 pub unsafe fn keys_len(record: *const Record, answer: *mut [u64; 4]) {
-    om_keys_len(addr_of!((*record).keys_len).cast::<[u16; 3]>(), answer)
+    om_keys_len(addr_of!((*record).keys_len).cast::<[u16; 4]>(), answer)
 }
 
 pub unsafe fn taken(record: *const Record, answer: *mut [u64; 4]) {
@@ -313,7 +323,7 @@ pub unsafe fn taken(record: *const Record, answer: *mut [u64; 4]) {
 }
 
 pub unsafe fn values_len(record: *const Record, answer: *mut [u64; 4]) {
-    om_values_len(addr_of!((*record).values_len).cast::<[u16; 3]>(), answer)
+    om_values_len(addr_of!((*record).values_len).cast::<[u16; 4]>(), answer)
 }
 
 pub unsafe fn write_image(record: *const Record, out: *mut u8, out_len: usize, answer: *mut [u64; 4]) {
@@ -322,8 +332,8 @@ pub unsafe fn write_image(record: *const Record, out: *mut u8, out_len: usize, a
         addr_of!((*record).values),
         addr_of!((*record).key_index),
         addr_of!((*record).next_value),
-        addr_of!((*record).keys_len).cast::<[u16; 3]>(),
-        addr_of!((*record).values_len).cast::<[u16; 3]>(),
+        addr_of!((*record).keys_len).cast::<[u16; 4]>(),
+        addr_of!((*record).values_len).cast::<[u16; 4]>(),
         out,
         out_len,
         answer,

@@ -7,7 +7,7 @@ use mathlib.Core.List.{List}
 use native.Mathlib.Omega.{arith}
 use Rattle.index.proofs.Pigeon.{less-or-not}
 use Rattle.steps.specs.State as St
-use Rattle.steps.specs.State.{State, add, maxRounds, maxMembers}
+use Rattle.steps.specs.State.{State, add}
 use Rattle.steps.specs.Call.{Call, Answer, Outcome, lent, packs, refused}
 use Rattle.steps.specs.Coded.{coded}
 use Rattle.steps.specs.Step.{step, refusing}
@@ -18,7 +18,7 @@ use Rattle.steps.proofs.Doing.{does-refuse, does-change}
 use Rattle.links.specs.Stores.{at, spot}
 use Rattle.multimap.specs.Arrays.{Arrays}
 use Rattle.multimap.specs.Changes.{withMember, withRound}
-use Rattle.multimap.specs.Map.{stateOf}
+use Rattle.multimap.specs.Map.{limitsOf, stateOf}
 use Rattle.multimap.specs.WellLinked.{WellLinked, linked}
 use Rattle.multimap.specs.Adding.{Ready, AddedTo, Joins, Joined, Posted, lastKey}
 use Rattle.multimap.proofs.States.{Unknown, is-full, not-full, is-crowded, not-crowded}
@@ -30,15 +30,15 @@ use Rattle.adding.specs.Admitted.{withFirst, Admitted}
 -- ---- the three ways through `admit`
 
 module _ (a : Arrays) (k v p : ℕ) (o : Answer) where
-  pub turned-full : maxRounds ≤ at (a .rounds) 0 → (l : List ℕ) → l ≡ coded (refused 1) → Admitted a k v p o a l
+  pub turned-full : limitsOf a .rounds ≤ at (a .rounds) 0 → (l : List ℕ) → l ≡ coded (refused 1) → Admitted a k v p o a l
   turned-full f l e = record { full = λ h. (refl, e); crowded = λ h. absurd (omega arith); enters = λ h. absurd (omega arith) }
 
-  module _ (room : at (a .rounds) 0 < maxRounds) where
-    pub turned-crowded : maxMembers ≤ at (a .members) 0 → (l : List ℕ) → l ≡ coded (refused 2) → Admitted a k v p o a l
+  module _ (room : at (a .rounds) 0 < limitsOf a .rounds) where
+    pub turned-crowded : limitsOf a .members ≤ at (a .members) 0 → (l : List ℕ) → l ≡ coded (refused 2) → Admitted a k v p o a l
     turned-crowded f l e =
         record { full = λ h. absurd (omega arith); crowded = λ h i. (refl, e); enters = λ h i. absurd (omega arith) }
 
-    pub let-in : at (a .members) 0 < maxMembers → {x : ℕ} → x ≡ spot (a .members) → {b : Arrays} → b ≡ withMember a k p
+    pub let-in : at (a .members) 0 < limitsOf a .members → {x : ℕ} → x ≡ spot (a .members) → {b : Arrays} → b ≡ withMember a k p
         → (r : Arrays) → r ≡ withRound b x v → (l : List ℕ) → l ≡ coded o → Admitted a k v p o r l
     let-in spare x b r e l d =
         record { full = λ h. absurd (omega arith); crowded = λ h i. absurd (omega arith); enters = λ h i. (rw (e, b, x), d) }
@@ -55,7 +55,7 @@ pub record Entering (c : Call) (k v : ℕ) (o : Outcome) (s : State) : Type 0 wh
   pub stays : packs c ≡ false
 
 module _ (a : Arrays) (g : WellLinked a) (k p : ℕ) (u : Unknown a k p) where
-  pub first-posted : (v : ℕ) → at (a .rounds) 0 < maxRounds → at (a .members) 0 < maxMembers → Posted a k v (withFirst a k v p)
+  pub first-posted : (v : ℕ) → at (a .rounds) 0 < limitsOf a .rounds → at (a .members) 0 < limitsOf a .members → Posted a k v (withFirst a k v p)
   first-posted v room spare =
       let o : Arrays = withMember a k p in
       let h : Joins a k p = joins-unknown a k p g room spare u in
@@ -68,12 +68,12 @@ module _ (a : Arrays) (g : WellLinked a) (k p : ℕ) (u : Unknown a k p) where
       → {r : Arrays} {l : List ℕ} → Admitted a k v p (o .answer) r l → Told linked c a r (lent c .out) (lent c .out2) l
   admitted {c} {v} {o} e {r} {l} d =
       ⊎-elim
-      (λ (room : at (a .rounds) 0 < maxRounds).
-      ⊎-elim (λ (spare : at (a .members) 0 < maxMembers). enters room spare)
-      (λ (f : maxMembers ≤ at (a .members) 0). refuses 2 (e .crowded (not-full a room) (is-crowded a f)) (d .crowded room f))
-      (less-or-not (at (a .members) 0) maxMembers))
-      (λ (f : maxRounds ≤ at (a .rounds) 0). refuses 1 (e .full (is-full a f)) (d .full f))
-      (less-or-not (at (a .rounds) 0) maxRounds)
+      (λ (room : at (a .rounds) 0 < limitsOf a .rounds).
+      ⊎-elim (λ (spare : at (a .members) 0 < limitsOf a .members). enters room spare)
+      (λ (f : limitsOf a .members ≤ at (a .members) 0). refuses 2 (e .crowded (not-full a room) (is-crowded a f)) (d .crowded room f))
+      (less-or-not (at (a .members) 0) (limitsOf a .members)))
+      (λ (f : limitsOf a .rounds ≤ at (a .rounds) 0). refuses 1 (e .full (is-full a f)) (d .full f))
+      (less-or-not (at (a .rounds) 0) (limitsOf a .rounds))
     where
       refuses : (n : ℕ) → step c (stateOf a) ≡ (refusing c n, stateOf a) → (r ≡ a) × (l ≡ coded (refused n))
           → Told linked c a r (lent c .out) (lent c .out2) l
@@ -86,7 +86,7 @@ module _ (a : Arrays) (g : WellLinked a) (k p : ℕ) (u : Unknown a k p) where
             ans-is = w .1;
           }
 
-      enters : at (a .rounds) 0 < maxRounds → at (a .members) 0 < maxMembers → Told linked c a r (lent c .out) (lent c .out2) l
+      enters : at (a .rounds) 0 < limitsOf a .rounds → at (a .members) 0 < limitsOf a .members → Told linked c a r (lent c .out) (lent c .out2) l
       enters room spare =
           let n : Posted a k v (withFirst a k v p) = first-posted v room spare in
           record {

@@ -3,7 +3,6 @@ use Prim.Native.Nat.{ℕ, _≤_, _<_}
 use mathlib.Core.Path.{_≡_, refl, sym, subst}
 use mathlib.Core.Bool.{true, false}
 use mathlib.Core.List.{List, []}
-use Rattle.steps.specs.State.{maxRounds}
 use Rattle.steps.specs.Call.{append, refused, present}
 use Rattle.steps.specs.Coded.{coded}
 use Rattle.steps.specs.Step.{say}
@@ -15,7 +14,7 @@ use Rattle.index.specs.declared.KeyPlace.{KeyPlace}
 use Rattle.index.specs.declared.Found.the-variants.{At, Absent}
 use Rattle.multimap.specs.Arrays.{Arrays}
 use Rattle.multimap.specs.Changes.{withRound}
-use Rattle.multimap.specs.Map.{stateOf}
+use Rattle.multimap.specs.Map.{limitsOf, stateOf}
 use Rattle.multimap.specs.WellLinked.{WellLinked, linked}
 use Rattle.multimap.proofs.Records.{Member, found}
 use Rattle.multimap.proofs.States.{Unknown, absent-at}
@@ -25,11 +24,11 @@ use Rattle.adding.specs.Admitted.{Admitted}
 use Rattle.adding.proofs.Admissions.{Entering, admitted}
 
 module _ (a : Arrays) (g : WellLinked a) (k v : ℕ) where
-  pub told-full : maxRounds ≤ at (a .rounds) 0 → (l : List ℕ) → l ≡ coded (refused 1) → Told linked (append k v) a a [] [] l
+  pub told-full : limitsOf a .rounds ≤ at (a .rounds) 0 → (l : List ℕ) → l ≡ coded (refused 1) → Told linked (append k v) a a [] [] l
   told-full f l e = record { outcome = say (refused 1); does = append-full k v a g f; out-is = refl; out2-is = refl; ans-is = e }
 
   -- a member that is there
-  pub told-known : at (a .rounds) 0 < maxRounds → (p n : ℕ) (y : KeyPlace) → searched (a .index) (a .keys) k ≡ At p y n
+  pub told-known : at (a .rounds) 0 < limitsOf a .rounds → (p n : ℕ) (y : KeyPlace) → searched (a .index) (a .keys) k ≡ At p y n
       → (r : Arrays) → r ≡ withRound a (y .0) v → (l : List ℕ) → l ≡ coded (present true) → Told linked (append k v) a r [] [] l
   told-known room p n y f r i l e =
       let o : Arrays = withRound a (y .0) v in

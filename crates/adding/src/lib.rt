@@ -8,8 +8,6 @@ use multimap::KeyIndex;
 use multimap::KeyLinks;
 use multimap::Keys;
 use multimap::Lengths;
-use multimap::MEMBERS;
-use multimap::ROUNDS;
 use multimap::ValueLinks;
 use multimap::Values;
 ghost use mathlib.Core.Path.{_≡_};
@@ -41,7 +39,8 @@ pub extern "C" fn om_append(
     match found {
         Found::At(_, key, _) => {
             let held = rounds[0];
-            if ROUNDS <= held {
+            let most = rounds[3];
+            if most <= held {
                 answers::tell(answer, Answer::Refused(1));
                 return;
             }
@@ -76,12 +75,14 @@ pub fn admit(
     ensures { λ α _. ⌜ Admitted α k v at (answerOf welcome) (left keys lengths «next_key» «previous_key» values «key_index» «next_value» «previous_value» «next_index» «previous_index» index members rounds taken) (now (answer .exit)) ⌝ }
 {
     let held = rounds[0];
-    if ROUNDS <= held {
+    let most = rounds[3];
+    if most <= held {
         answers::tell(answer, Answer::Refused(1));
         return;
     }
     let joined = members[0];
-    if MEMBERS <= joined {
+    let most_joined = members[3];
+    if most_joined <= joined {
         answers::tell(answer, Answer::Refused(2));
         return;
     }

@@ -41,12 +41,14 @@ fn answer_on_new_map() {
     let mut next_index = [0u16; 1280];
     let mut previous_index = [0u16; 1280];
     let mut index = [0u16; 512];
-    let mut members = [0u16; 3];
-    let mut rounds = [0u16; 3];
+    let mut members = [0u16; 4];
+    let mut rounds = [0u16; 4];
     let mut taken = 0u32;
+    let mut made = [0u64; 4];
     packing::om_new(
         &mut keys, &mut lengths, &mut next_key, &mut previous_key, &mut values, &mut key_index, &mut next_value,
         &mut previous_value, &mut next_index, &mut previous_index, &mut index, &mut members, &mut rounds, &mut taken,
+        256, 1024, &mut made,
     );
     answer_input(
         &mut keys, &mut lengths, &mut next_key, &mut previous_key, &mut values, &mut key_index, &mut next_value,

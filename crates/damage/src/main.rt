@@ -19,6 +19,7 @@ fn main() {
     round_counts();
     members();
     member_counts();
+    limits();
     owners();
     records();
     member_without_a_round();
@@ -58,7 +59,7 @@ fn sample(
     let mut answer = [0u64; 4];
     packing::om_new(
         keys, lengths, next_key, previous_key, values, key_index, next_value, previous_value,
-        next_index, previous_index, index, members, rounds, taken,
+        next_index, previous_index, index, members, rounds, taken, 3, 5, &mut answer,
     );
     adding::om_append(
         keys, lengths, next_key, previous_key, values, key_index, next_value, previous_value,
@@ -159,8 +160,8 @@ fn damaged(what: &[u8], array: Array, at: usize, v: u64) {
     let mut next_index = [0u16; 1280];
     let mut previous_index = [0u16; 1280];
     let mut index = [0u16; 512];
-    let mut members = [0u16; 3];
-    let mut rounds = [0u16; 3];
+    let mut members = [0u16; 4];
+    let mut rounds = [0u16; 4];
     let mut taken = 0u32;
     sample(
         &mut keys, &mut lengths, &mut next_key, &mut previous_key, &mut values, &mut key_index, &mut next_value, &mut previous_value,
@@ -177,7 +178,7 @@ fn damaged(what: &[u8], array: Array, at: usize, v: u64) {
     );
 }
 
-// Prints what the check says of the map without a round.
+// Prints what the check says of the map without a round, whose limits are 0.
 #[rattlefmt::skip]
 fn empty_map() {
     let mut keys = [0u64; 256];
@@ -191,12 +192,13 @@ fn empty_map() {
     let mut next_index = [0u16; 1280];
     let mut previous_index = [0u16; 1280];
     let mut index = [0u16; 512];
-    let mut members = [0u16; 3];
-    let mut rounds = [0u16; 3];
+    let mut members = [0u16; 4];
+    let mut rounds = [0u16; 4];
     let mut taken = 0u32;
+    let mut answer = [0u64; 4];
     packing::om_new(
         &mut keys, &mut lengths, &mut next_key, &mut previous_key, &mut values, &mut key_index, &mut next_value, &mut previous_value,
-        &mut next_index, &mut previous_index, &mut index, &mut members, &mut rounds, &mut taken,
+        &mut next_index, &mut previous_index, &mut index, &mut members, &mut rounds, &mut taken, 0, 0, &mut answer,
     );
     say(
         b"the empty map",
@@ -245,6 +247,18 @@ fn member_counts() {
     damaged(b"keys_free = 3", Array::Members, 2, 3);
 }
 
+// Puts each limit below what is held, at it, at the highest that a map may have, and above that: no, yes, yes, no.
+fn limits() {
+    damaged(b"keys_limit = 1", Array::Members, 3, 1);
+    damaged(b"keys_limit = 2", Array::Members, 3, 2);
+    damaged(b"keys_limit = 256", Array::Members, 3, 256);
+    damaged(b"keys_limit = 257", Array::Members, 3, 257);
+    damaged(b"values_limit = 2", Array::Rounds, 3, 2);
+    damaged(b"values_limit = 3", Array::Rounds, 3, 3);
+    damaged(b"values_limit = 1024", Array::Rounds, 3, 1024);
+    damaged(b"values_limit = 1025", Array::Rounds, 3, 1025);
+}
+
 // Damages the member place of the round 20: another one, the freed one, none.
 fn owners() {
     damaged(b"key_index[1] = 0", Array::KeyIndex, 1, 0);
@@ -280,8 +294,8 @@ fn member_without_a_round() {
     let mut next_index = [0u16; 1280];
     let mut previous_index = [0u16; 1280];
     let mut index = [0u16; 512];
-    let mut members = [0u16; 3];
-    let mut rounds = [0u16; 3];
+    let mut members = [0u16; 4];
+    let mut rounds = [0u16; 4];
     let mut taken = 0u32;
     sample(
         &mut keys, &mut lengths, &mut next_key, &mut previous_key, &mut values, &mut key_index, &mut next_value, &mut previous_value,

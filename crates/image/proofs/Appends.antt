@@ -1,4 +1,4 @@
--- Pairs appended one after the other to the empty map: the turns of `append_all`. Assumes nothing.
+-- Pairs appended one after the other to a new map: the turns of `append_all`. Assumes nothing.
 use Prim.Native.Nat.{ℕ, zero, suc, _+_, _≤_, _<_, min}
 use mathlib.Core.Path.{_≡_, refl, sym, ap, _∙_, subst}
 use mathlib.Core.Logic.{_≢_}
@@ -12,7 +12,7 @@ use lib.ListN.{length, getD, take, drop, length-append, take-append-drop}
 use lib.Seq.{take-all, length-take-le}
 use Rattle.steps.specs.Lists.{any}
 use Rattle.steps.specs.State as St
-use Rattle.steps.specs.State.{State, Pair, empty, add, full, crowded, maxRounds, maxMembers}
+use Rattle.steps.specs.State.{State, Limits, Pair, empty, add, full, crowded, maxRounds}
 use Rattle.steps.specs.Marked.{_∶_, firsts, start}
 use Rattle.steps.specs.Call.{Answer, Outcome, append, present, refused}
 use Rattle.steps.specs.Coded.{coded}
@@ -38,15 +38,15 @@ take-paired (k ∷ ks) [] i h e = absurd (omega arith)
 take-paired (k ∷ ks) (v ∷ vs) zero h e = refl
 take-paired (k ∷ ks) (v ∷ vs) (suc i) h e = ap (λ (l : List Pair). k ∶ v ∷ l) (take-paired ks vs i (omega arith) (omega arith))
 
--- ---- the state of pairs that are added to the empty one
+-- ---- the state of pairs that are added to an empty one
 
 firsts-append : (met : List ℕ) (ps qs : List Pair) → firsts met (ps ++ qs) ≡ firsts (firsts met ps) qs
 firsts-append met [] qs = refl
 firsts-append met (p ∷ ps) qs = firsts-append (cond (any (eqb (p .key)) met) met (met ++ (p .key ∷ []))) ps qs
 
 -- one pair more
-start-add : (ps : List Pair) (k v : ℕ) → length ps < maxRounds → start (ps ++ (k ∶ v ∷ [])) ≡ add k v (start ps)
-start-add ps k v h =
+start-add : (l : Limits) (ps : List Pair) (k v : ℕ) → length ps < maxRounds → start l (ps ++ (k ∶ v ∷ [])) ≡ add k v (start l ps)
+start-add l ps k v h =
     let t : length (ps ++ (k ∶ v ∷ [])) ≡ min (length ps + 1) 4294967295 = omega (arith, length-append ps (k ∶ v ∷ [])) in
     rw (firsts-append [] ps (k ∶ v ∷ []), t)
 
@@ -60,17 +60,17 @@ firsts-more met (p ∷ ps) = go (any (eqb (p .key)) met) (firsts-more met ps) (f
     go true f g = f
     go false f g = omega (arith, length-append met (p .key ∷ []))
 
--- a new member, with as many met as there is room for
-firsts-many : (ps qs : List Pair) (k v : ℕ) → St.absent k (start ps) ≡ true → crowded (start ps) ≡ true
-    → maxMembers < length (firsts [] (ps ++ (k ∶ v ∷ qs)))
-firsts-many ps qs k v a c =
-    go (St.present k (start ps)) refl a
+-- a new member, with as many met as the limit is
+firsts-many : (l : Limits) (ps qs : List Pair) (k v : ℕ) → St.absent k (start l ps) ≡ true → crowded (start l ps) ≡ true
+    → l .members < length (firsts [] (ps ++ (k ∶ v ∷ qs)))
+firsts-many l ps qs k v a c =
+    go (St.present k (start l ps)) refl a
   where
-    go : (b : Bool) → any (eqb k) (firsts [] ps) ≡ b → not b ≡ true → maxMembers < length (firsts [] (ps ++ (k ∶ v ∷ qs)))
+    go : (b : Bool) → any (eqb k) (firsts [] ps) ≡ b → not b ≡ true → l .members < length (firsts [] (ps ++ (k ∶ v ∷ qs)))
     go true e z = absurd (let y : _≡_ {A = ℕ} 0 1 = cc in omega arith)
     go false e z =
         rw (firsts-append [] ps (k ∶ v ∷ qs), e)
-        (omega (arith, leb-true 256 (length (firsts [] ps)) c, firsts-more (firsts [] ps ++ (k ∷ [])) qs, length-append (firsts [] ps) (k ∷ [])))
+        (omega (arith, leb-true (l .members) (length (firsts [] ps)) c, firsts-more (firsts [] ps ++ (k ∷ [])) qs, length-append (firsts [] ps) (k ∷ [])))
 
 -- ---- what an append does where there is room for a round
 
@@ -106,23 +106,23 @@ left k v m r ans f t = go (step (append k v) (stateOf m)) (appended k v (stateOf
 
 -- ---- the turns
 
-module _ (ks vs : List ℕ) where
+module _ (l : Limits) (ks vs : List ℕ) where
   -- after i pairs
   pub record Building (i : ℕ) (m : Arrays) : Type 0 where
     pub some : i ≤ length ks
     pub linked : WellLinked m
-    pub state : stateOf m ≡ start (take i (pairUp ks vs))
+    pub state : stateOf m ≡ start l (take i (pairUp ks vs))
 
-  pub building-none : (m : Arrays) → WellLinked m → stateOf m ≡ empty → Building 0 m
+  pub building-none : (m : Arrays) → WellLinked m → stateOf m ≡ empty l → Building 0 m
   building-none m g e = record { some = omega arith; linked = g; state = e }
 
-  module _ (few : length ks ≤ maxRounds) (same : length ks ≡ length vs) where
+  module _ (top : l .rounds ≤ maxRounds) (few : length ks ≤ l .rounds) (same : length ks ≡ length vs) where
     many : length (pairUp ks vs) ≡ length ks
     many = length-paired ks vs same
 
     module _ {i : ℕ} {m : Arrays} (b : Building i m) where
-      pub building-all : length ks ≤ i → Built (pairUp ks vs) true m
-      building-all h = (b .linked, b .state ∙ ap start (take-all i (pairUp ks vs) (omega (arith, many))))
+      pub building-all : length ks ≤ i → Built l (pairUp ks vs) true m
+      building-all h = (b .linked, b .state ∙ ap (start l) (take-all i (pairUp ks vs) (omega (arith, many))))
 
       module _ (h : i < length ks) (k v : ℕ) (ek : k ≡ getD ks i 0) (ev : v ≡ getD vs i 0) (r : Arrays) (ans : List ℕ)
           (t : Told linked (append k v) m r [] [] ans) where
@@ -136,7 +136,7 @@ module _ (ks vs : List ℕ) where
         one-more = rw (ek, ev) (take-paired ks vs i h same)
 
         room : full (stateOf m) ≡ false
-        room = ap full (b .state) ∙ lt-leb 1024 (length ps) (omega (arith, so-many))
+        room = ap full (b .state) ∙ lt-leb (l .rounds) (length ps) (omega (arith, so-many))
 
         after : Left k v m r ans
         after = left k v m r ans room t
@@ -150,12 +150,12 @@ module _ (ks vs : List ℕ) where
                   some = omega arith;
                   linked = t .does .linked;
                   state =
-                      e ∙ ap (add k v) (b .state) ∙ sym (start-add ps k v (omega (arith, so-many))) ∙ ap start (sym one-more)
-                      ∙ ap (λ (j : ℕ). start (take j (pairUp ks vs))) (sym (add-one i));
+                      e ∙ ap (add k v) (b .state) ∙ sym (start-add l ps k v (omega (arith, so-many))) ∙ ap (start l) (sym one-more)
+                      ∙ ap (λ (j : ℕ). start l (take j (pairUp ks vs))) (sym (add-one i));
                 }
             go (stuck z a c) = absurd (n z)
 
-        pub building-stuck : at ans 0 ≡ 0 → maxMembers < length (firsts [] (pairUp ks vs))
+        pub building-stuck : at ans 0 ≡ 0 → l .members < length (firsts [] (pairUp ks vs))
         building-stuck z = go after
           where
             rest : List Pair
@@ -166,8 +166,8 @@ module _ (ks vs : List ℕ) where
                 sym (append-assoc ps (k ∶ v ∷ []) rest) ∙ ap (λ (l : List Pair). l ++ rest) (sym one-more)
                 ∙ take-append-drop (suc i) (pairUp ks vs)
 
-            go : Left k v m r ans → maxMembers < length (firsts [] (pairUp ks vs))
+            go : Left k v m r ans → l .members < length (firsts [] (pairUp ks vs))
             go (added n e) = absurd (n z)
             go (stuck y a c) =
-                subst (λ (l : List Pair). maxMembers < length (firsts [] l)) whole
-                (firsts-many ps rest k v (ap (St.absent k) (sym (b .state)) ∙ a) (ap crowded (sym (b .state)) ∙ c))
+                subst (λ (qs : List Pair). l .members < length (firsts [] qs)) whole
+                (firsts-many l ps rest k v (ap (St.absent k) (sym (b .state)) ∙ a) (ap crowded (sym (b .state)) ∙ c))

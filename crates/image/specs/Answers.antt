@@ -2,6 +2,7 @@
 use Prim.Native.Nat.{ℕ}
 use mathlib.Core.Path.{_≡_}
 use mathlib.Core.List.{List}
+use Rattle.steps.specs.State.{Limits}
 use Rattle.steps.specs.Call.{Answer}
 use Rattle.steps.specs.Coded.{coded}
 use Rattle.steps.specs.Step.{write}
@@ -16,14 +17,14 @@ pub record Writes (m : Arrays) (out out′ ans : List ℕ) : Type 0 where
   pub writes : write answer out′ ≡ writeOf (stateOf m) out
   pub ans-is : ans ≡ coded answer
 
--- the bytes s are read as the definition says: the answer, and a well-linked map that stands for the state
-pub record Reads (s : List ℕ) (a : Answer) (m : Arrays) : Type 0 where
-  pub answer : a ≡ readOf s .0
-  pub state : stateOf m ≡ readOf s .1
+-- the bytes s are read into the limits l as the definition says: the answer, and a well-linked map that stands for the state
+pub record Reads (l : Limits) (s : List ℕ) (a : Answer) (m : Arrays) : Type 0 where
+  pub answer : a ≡ readOf l s .0
+  pub state : stateOf m ≡ readOf l s .1
   pub linked : WellLinked m
 
--- the bytes s are read as the map m; the answer's numbers are `ans`
-pub record Restores (s : List ℕ) (m : Arrays) (ans : List ℕ) : Type 0 where
+-- so, as the map m; the answer's numbers are `ans`
+pub record Restores (l : Limits) (s : List ℕ) (m : Arrays) (ans : List ℕ) : Type 0 where
   pub answer : Answer
-  pub reads : Reads s answer m
+  pub reads : Reads l s answer m
   pub ans-is : ans ≡ coded answer

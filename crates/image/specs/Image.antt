@@ -2,15 +2,16 @@
 use Prim.Native.Nat.{ℕ, _+_, _*_, _≤_}
 use mathlib.Core.Path.{_≡_}
 use mathlib.Core.Bool.{not, _||_}
-use mathlib.Core.List.{List, [], _∷_, map}
+use mathlib.Core.List.{List, [], _∷_, _++_, map}
 use mathlib.Core.Option.{Option, some}
 use mathlib.Core.Option as Opt
 use lib.Dec.{eqb, ltb}
 use lib.ListN.{length, drop}
-use Rattle.steps.specs.State.{State, Pair, empty, maxRounds, maxMembers}
+use Rattle.steps.specs.State.{State, Limits, Pair}
 use Rattle.steps.specs.Marked.{_∶_, firsts, start}
 use Rattle.steps.specs.Call.{Answer, Outcome, refused, done, count}
-use Rattle.steps.specs.Step.{Check, refusal, short, over, write}
+use Rattle.steps.specs.Step.{Check, refusal, short, over, write, making, makeOf}
+use Rattle.steps.specs.Proper.{Allowed}
 use Rattle.image.specs.Bytes.{layout, number, numbers}
 
 -- ---- writing
@@ -50,27 +51,29 @@ pairUp (k ∷ ks) (v ∷ vs) = k ∶ v ∷ pairUp ks vs
 unfoldable pub pairsIn : List ℕ → List Pair
 pairsIn s = pairUp (numbers (roundsSaid s) (drop 8 s)) (numbers (roundsSaid s) (drop (8 + 8 * roundsSaid s) s))
 
--- the rows of the table for reading, in order
-unfoldable pub reading : List ℕ → List Check
-reading s =
-    (ltb (length s) 8, 11)
-    ∷ (ltb maxRounds (roundsSaid s) || ltb maxMembers (membersSaid s), 12)
+-- the rows of the table for reading into the limits l, in order: first the row for making a map with them (document 02, No. 1)
+unfoldable pub reading : Limits → List ℕ → List Check
+reading l s =
+    making l
+    ++ ((ltb (length s) 8, 11)
+    ∷ (ltb (l .rounds) (roundsSaid s) || ltb (l .members) (membersSaid s), 12)
     ∷ (not (eqb (length s) (8 + 16 * roundsSaid s)), 13)
     ∷ (not (eqb (membersSaid s) (length (firsts [] (pairsIn s)))), 14)
-    ∷ []
+    ∷ [])
 
--- a refused reading gives the empty state; any other the pairs, the members in order of first appearance, and T as the number of pairs
-abbrev pub restored : Option ℕ → List ℕ → Answer × State
-restored (some n) s = (refused n, empty)
-restored Opt.none s = (done, start (pairsIn s))
+-- a refused reading gives the new map with these limits; any other the pairs, the members in order of first appearance, and T as the number of pairs
+abbrev pub restored : Option ℕ → Limits → List ℕ → Answer × State
+restored (some n) l s = (refused n, makeOf l .1)
+restored Opt.none l s = (done, start l (pairsIn s))
 
-unfoldable pub readOf : List ℕ → Answer × State
-readOf s = restored (refusal (reading s)) s
+unfoldable pub readOf : Limits → List ℕ → Answer × State
+readOf l s = restored (refusal (reading l s)) l s
 
--- the images that reading accepts
-pub record Accepted (s : List ℕ) : Type 0 where
+-- the images that reading into the limits l accepts
+pub record Accepted (l : Limits) (s : List ℕ) : Type 0 where
+  pub allowed : Allowed l
   pub enough : 8 ≤ length s
-  pub rounds : roundsSaid s ≤ maxRounds
-  pub members : membersSaid s ≤ maxMembers
+  pub rounds : roundsSaid s ≤ l .rounds
+  pub members : membersSaid s ≤ l .members
   pub long : length s ≡ 8 + 16 * roundsSaid s
   pub counted : membersSaid s ≡ length (firsts [] (pairsIn s))

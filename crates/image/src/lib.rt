@@ -16,10 +16,10 @@ ghost use Prim.Native.Nat.{_+_, _*_, _<_, _≤_, min};
 ghost use lib.ListN.{length, take, drop};
 ghost use lib.Seq.{sets};
 ghost use Rattle.fnv.specs.Fnv.{bytes};
-ghost use Rattle.steps.specs.State.{empty, maxRounds};
+ghost use Rattle.steps.specs.State.{limit, empty, maxRounds};
 ghost use Rattle.multimap.specs.Arrays.{Arrays};
 ghost use Rattle.multimap.specs.Lent.{lent, left};
-ghost use Rattle.multimap.specs.Map.{at, stateOf};
+ghost use Rattle.multimap.specs.Map.{at, limitsOf, stateOf};
 ghost use Rattle.multimap.specs.WellLinked.{WellLinked};
 ghost use Rattle.image.specs.Bytes.{array, number, numbers, layout};
 ghost use Rattle.image.specs.Image.{pairUp};
@@ -51,7 +51,7 @@ pub extern "C" fn om_write_image<'a>(
     answers::tell(answer, Answer::Count(size as u64));
 }
 
-// Reads an image, whatever the arrays hold; a refused reading leaves the empty map.
+// Reads an image into these limits, whatever the arrays hold; a refused reading leaves the map that `om_new` makes with them.
 #[no_mangle]
 #[rattlefmt::skip]
 pub extern "C" fn om_read_image(
@@ -59,15 +59,18 @@ pub extern "C" fn om_read_image(
     values: &mut Values, key_index: &mut KeyIndex, next_value: &mut ValueLinks, previous_value: &mut ValueLinks,
     next_index: &mut IndexLinks, previous_index: &mut IndexLinks, index: &mut Index,
     members: &mut Counts, rounds: &mut Counts, taken: &mut u32,
-    bytes: &[u8], answer: &mut [u64; 4],
+    members_limit: u64, rounds_limit: u64, bytes: &[u8], answer: &mut [u64; 4],
 )
-    ensures { λ _. ⌜ Restores (now (bytes .entry)) (left keys lengths «next_key» «previous_key» values «key_index» «next_value» «previous_value» «next_index» «previous_index» index members rounds taken) (now (answer .exit)) ⌝ }
+    ensures { λ _. ⌜ Restores (limit «members_limit» «rounds_limit») (now (bytes .entry)) (left keys lengths «next_key» «previous_key» values «key_index» «next_value» «previous_value» «next_index» «previous_index» index members rounds taken) (now (answer .exit)) ⌝ }
 {
     packing::om_new(
         keys, lengths, next_key, previous_key, values, key_index, next_value, previous_value,
-        next_index, previous_index, index, members, rounds, taken,
+        next_index, previous_index, index, members, rounds, taken, members_limit, rounds_limit, answer,
     );
-    let said = read_sizes(bytes);
+    if answer[0] == 0 {
+        return;
+    }
+    let said = read_sizes(bytes, members_limit, rounds_limit);
     match said {
         Sizes::Refused(number) => {
             answers::tell(answer, Answer::Refused(number));
@@ -84,7 +87,7 @@ pub extern "C" fn om_read_image(
             }
             packing::om_new(
                 keys, lengths, next_key, previous_key, values, key_index, next_value, previous_value,
-                next_index, previous_index, index, members, rounds, taken,
+                next_index, previous_index, index, members, rounds, taken, members_limit, rounds_limit, answer,
             );
             answers::tell(answer, Answer::Refused(14));
             return;
@@ -146,15 +149,15 @@ enum Sizes {
 }
 
 // Reads the sizes and checks them, with the image's length, in the order of the table.
-fn read_sizes(s: &[u8]) -> Sizes
-    ensures { λ r. ⌜ Said (now (s .entry)) r ⌝ }
+fn read_sizes(s: &[u8], members_limit: u64, rounds_limit: u64) -> Sizes
+    ensures { λ r. ⌜ Said (limit «members_limit» «rounds_limit») (now (s .entry)) r ⌝ }
 {
     if s.len() < 8 {
         return Sizes::Refused(11);
     }
     let n = four(s, 0);
     let m = four(s, 4);
-    if 1024 < n || 256 < m {
+    if rounds_limit < n || members_limit < m {
         return Sizes::Refused(12);
     }
     let rounds = n as usize;
@@ -164,7 +167,7 @@ fn read_sizes(s: &[u8]) -> Sizes
     Sizes::Right(rounds, m)
 }
 
-// Appends the n pairs of an image to the empty map. The answer is whether they have m members.
+// Appends the n pairs of an image to a new map. The answer is whether they have m members.
 #[rattlefmt::skip]
 fn restore(
     keys: &mut Keys, lengths: &mut Lengths, next_key: &mut KeyLinks, previous_key: &mut KeyLinks,
@@ -175,8 +178,8 @@ fn restore(
 ) -> bool
     ghost { Arrays }
     requires { λ α. ⌜ lent keys lengths «next_key» «previous_key» values «key_index» «next_value» «previous_value» «next_index» «previous_index» index members rounds taken ≡ α ⌝ }
-    requires { λ α. ⌜ WellLinked α × (stateOf α ≡ empty) × RightSizes (now s) n m ⌝ }
-    ensures { λ α r. ⌜ Restored (now (s .entry)) r (left keys lengths «next_key» «previous_key» values «key_index» «next_value» «previous_value» «next_index» «previous_index» index members rounds taken) ⌝ }
+    requires { λ α. ⌜ WellLinked α × (stateOf α ≡ empty (limitsOf α)) × RightSizes (limitsOf α) (now s) n m ⌝ }
+    ensures { λ α r. ⌜ Restored (limitsOf α) (now (s .entry)) r (left keys lengths «next_key» «previous_key» values «key_index» «next_value» «previous_value» «next_index» «previous_index» index members rounds taken) ⌝ }
 {
     let ks = read_numbers(&s[8..], n);
     let vs = read_numbers(&s[8 + 8 * n..], n);
@@ -188,7 +191,7 @@ fn restore(
     all && met == m
 }
 
-// Appends the pairs of a member and a round each to the empty map. The answer is whether there was room for all of their members.
+// Appends the pairs of a member and a round each to a new map. The answer is whether there was room for all of their members.
 #[rattlefmt::skip]
 fn append_all(
     keys: &mut Keys, lengths: &mut Lengths, next_key: &mut KeyLinks, previous_key: &mut KeyLinks,
@@ -199,8 +202,8 @@ fn append_all(
 ) -> bool
     ghost { Arrays }
     requires { λ α. ⌜ lent keys lengths «next_key» «previous_key» values «key_index» «next_value» «previous_value» «next_index» «previous_index» index members rounds taken ≡ α ⌝ }
-    requires { λ α. ⌜ WellLinked α × (stateOf α ≡ empty) × (length (now ks) ≤ maxRounds) × (length (now ks) ≡ length (now vs)) ⌝ }
-    ensures { λ α r. ⌜ Built (pairUp (now (ks .entry)) (now (vs .entry))) r (left keys lengths «next_key» «previous_key» values «key_index» «next_value» «previous_value» «next_index» «previous_index» index members rounds taken) ⌝ }
+    requires { λ α. ⌜ WellLinked α × (stateOf α ≡ empty (limitsOf α)) × (length (now ks) ≤ limitsOf α .rounds) × (length (now ks) ≡ length (now vs)) ⌝ }
+    ensures { λ α r. ⌜ Built (limitsOf α) (pairUp (now (ks .entry)) (now (vs .entry))) r (left keys lengths «next_key» «previous_key» values «key_index» «next_value» «previous_value» «next_index» «previous_index» index members rounds taken) ⌝ }
 {
     let mut answer = [0u64; 4];
     let mut i = 0;

@@ -1,5 +1,6 @@
-// Reads images from standard input, each after two bytes that say how long it is, lowest first. A line for each: a refusal's number; or P, K
-// and T, how long the map's own image is, and how many of its bytes, and of those past it, are not as they should be.
+// Reads images from standard input, each after six bytes that say how long it is and into which limits of members and of rounds it is read, two
+// bytes each, lowest first. A line for each: a refusal's number; or P, K and T. Then the limits of the map that is left; and, where it was not
+// refused, how long the map's own image is, and how many of its bytes, and of those past it, are not as they should be.
 use answers::Answer;
 use libc::STDIN_FILENO;
 use libc::STDOUT_FILENO;
@@ -62,6 +63,16 @@ fn print_members<'a>(keys: &'a Keys, next_key: &'a KeyLinks, members: &'a Counts
     }
 }
 
+// Prints the limits of the map.
+fn print_limits<'a>(members: &'a Counts, rounds: &'a Counts) {
+    let most_members = links::get(members, 3);
+    let most_rounds = links::get(rounds, 3);
+    io::write_all(STDOUT_FILENO, b" limits ");
+    io::print_decimal(STDOUT_FILENO, most_members as u64);
+    io::write_all(STDOUT_FILENO, b" ");
+    io::print_decimal(STDOUT_FILENO, most_rounds as u64);
+}
+
 // Says which byte is to stand at i: the image's, or past it 255.
 fn wanted(s: &[u8], i: usize) -> u8 {
     if i < s.len() { s[i] } else { 255 }
@@ -100,8 +111,9 @@ fn print_image<'a>(
     io::write_all(STDOUT_FILENO, b"\n");
 }
 
+// Reads the image into these limits, and prints its line.
 #[rattlefmt::skip]
-fn show(s: &[u8]) {
+fn show(s: &[u8], members_limit: u64, rounds_limit: u64) {
     let mut keys = [0u64; 256];
     let mut lengths = [0u16; 256];
     let mut next_key = [0u16; 257];
@@ -113,17 +125,19 @@ fn show(s: &[u8]) {
     let mut next_index = [0u16; 1280];
     let mut previous_index = [0u16; 1280];
     let mut index = [0u16; 512];
-    let mut members = [0u16; 3];
-    let mut rounds = [0u16; 3];
+    let mut members = [0u16; 4];
+    let mut rounds = [0u16; 4];
     let mut taken = 0u32;
     let mut told = [0u64; 4];
     image::om_read_image(
         &mut keys, &mut lengths, &mut next_key, &mut previous_key, &mut values, &mut key_index, &mut next_value,
-        &mut previous_value, &mut next_index, &mut previous_index, &mut index, &mut members, &mut rounds, &mut taken, s, &mut told,
+        &mut previous_value, &mut next_index, &mut previous_index, &mut index, &mut members, &mut rounds, &mut taken,
+        members_limit, rounds_limit, s, &mut told,
     );
     if told[0] == 0 {
         io::write_all(STDOUT_FILENO, b"refused ");
         io::print_decimal(STDOUT_FILENO, told[1]);
+        print_limits(&members, &rounds);
         io::write_all(STDOUT_FILENO, b"\n");
         return;
     }
@@ -131,6 +145,7 @@ fn show(s: &[u8]) {
     print_members(&keys, &next_key, &members);
     io::write_all(STDOUT_FILENO, b" taken ");
     io::print_decimal(STDOUT_FILENO, taken as u64);
+    print_limits(&members, &rounds);
     print_image(&keys, &values, &key_index, &next_value, &members, &rounds, s);
 }
 
@@ -146,23 +161,25 @@ fn read_front(bytes: &mut [u8], length: usize) -> bool {
     io::read_full(STDIN_FILENO, &mut bytes[..length]) == length
 }
 
-fn show_front(bytes: &[u8], length: usize) {
+fn show_front(bytes: &[u8], length: usize, members_limit: u64, rounds_limit: u64) {
     if length <= bytes.len() {
-        show(&bytes[..length]);
+        show(&bytes[..length], members_limit, rounds_limit);
     }
 }
 
 // Reads one image and prints its line; says whether there was one.
 fn turn() -> bool {
-    let mut head = [0u8; 2];
-    if !read_front(&mut head, 2) {
+    let mut head = [0u8; 6];
+    if !read_front(&mut head, 6) {
         return false;
     }
     let length = two_bytes(head[0], head[1]);
+    let members_limit = two_bytes(head[2], head[3]);
+    let rounds_limit = two_bytes(head[4], head[5]);
     let mut bytes = [0u8; 16393];
     if !read_front(&mut bytes, length) {
         return false;
     }
-    show_front(&bytes, length);
+    show_front(&bytes, length, members_limit as u64, rounds_limit as u64);
     true
 }

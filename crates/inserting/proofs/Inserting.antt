@@ -45,6 +45,7 @@ module _ (a : Arrays) (g : WellLinked a) (k v : ℕ) where
         here = d .member;
         others = d .some;
         index = d .index;
+        limited = d .limited;
         room = d .room;
       } in
       insert-known k v a g x m o d (withOnly a x v) (adds o x e v)

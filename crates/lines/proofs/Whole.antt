@@ -8,7 +8,7 @@ use native.Mathlib.Omega.{arith}
 use lib.Dec.{eqb}
 use lib.ListN.{length}
 use lib.Seq.{append-snoc}
-use Rattle.steps.specs.State.{State, empty}
+use Rattle.steps.specs.State.{State, empty, highest}
 use Rattle.steps.specs.Step.{step, checks, act}
 use Rattle.parsing.specs.Line.{lineOf, fields, onto}
 use Rattle.printing.specs.Text.{decimalOf, values, pairs}
@@ -19,7 +19,7 @@ use Rattle.lines.specs.Whole.{linesOf, joined, said, exampleInput, examp
 use Rattle.lines.proofs.Outputs.{output-append, same-printed}
 use Rattle.lines.proofs.Chunks.{ended-append, rest-append, same-output, same-state, same-rest, front-front}
 
-pub example : outputOf (linesOf exampleInput) empty ≡ exampleOutput
+pub example : outputOf (linesOf exampleInput) (empty highest) ≡ exampleOutput
 unfolding outputOf linesOf lineOf fields answerOf step checks act decimalOf values pairs
 example = refl
 

@@ -1,13 +1,14 @@
 -- Laws of a list without the places of another, and of tests made one after the other. Assumes nothing.
-use Prim.Native.Nat.{ℕ, _+_, _<_}
+use Prim.Native.Nat.{ℕ, _+_, _<_, _≤_}
 use mathlib.Core.Path.{_≡_, refl, sym, ap, _∙_}
 use mathlib.Core.Bool.{Bool, true, false, not, _&&_}
 use mathlib.Core.List.{List, [], _∷_}
 use native.Mathlib.Omega.{arith}
 use borrow.Author.Tests.{eq-eqb, ne-eqb}
 use lib.Dec.{eqb}
+use lib.ListN.{length}
 use Rattle.links.specs.Route.{pick, bit, tally, keep, without, strip}
-use Rattle.links.proofs.Routes.{keep-all, keep-same, tally-keep}
+use Rattle.links.proofs.Routes.{keep-all, keep-same, tally-keep, length-keep}
 
 keep-fuse : (f g : ℕ → Bool) (xs : List ℕ) → keep f (keep g xs) ≡ keep (λ q. g q && f q) xs
 keep-fuse f g [] = refl
@@ -28,6 +29,9 @@ strip-keep (w ∷ ws) vs =
     go : (q : ℕ) (b : Bool) → (not b && eqb (tally q ws) 0) ≡ eqb (bit b + tally q ws) 0
     go q true = sym (ne-eqb (1 + tally q ws) 0 (λ e. omega arith))
     go q false = let z : 0 + tally q ws ≡ tally q ws = omega arith in rw z
+
+pub length-strip : (ws vs : List ℕ) → length (strip ws vs) ≤ length vs
+length-strip ws vs = omega (arith, ap length (strip-keep ws vs), length-keep (λ q. eqb (tally q ws) 0) vs)
 
 -- the places that pass a test taken out: those that don't pass it
 pub strip-those : (f : ℕ → Bool) (vs : List ℕ) → strip (keep f vs) vs ≡ keep (λ q. not (f q)) vs

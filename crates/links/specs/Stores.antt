@@ -27,15 +27,16 @@ nextOut n p x = set n (at p x) (at n x)
 abbrev pub previousOut : List ℕ → List ℕ → ℕ → List ℕ
 previousOut n p x = set p (at n x) (at p x)
 
--- the place to be taken next, by the counts: a fresh one where none is free
+-- the place to be taken next, by the counts: a fresh one where none is free. They are how many places are in use, how many have ever been, the
+-- first freed one, and the limit, which no list function looks at
 abbrev pub spot : List ℕ → ℕ
 spot cs = pick (eqb (at cs 0) (at cs 1)) (at cs 1) (at cs 2)
 
--- the counts once it is taken
+-- the counts once it is taken; the last of them, the list's limit, stays
 abbrev pub taking : List ℕ → List ℕ → List ℕ
 taking n cs =
-    up (at cs 0) ∷ pick (eqb (at cs 0) (at cs 1)) (up (at cs 1)) (at cs 1) ∷ pick (eqb (at cs 0) (at cs 1)) (at cs 2) (at n (spot cs)) ∷ []
+    up (at cs 0) ∷ pick (eqb (at cs 0) (at cs 1)) (up (at cs 1)) (at cs 1) ∷ pick (eqb (at cs 0) (at cs 1)) (at cs 2) (at n (spot cs)) ∷ at cs 3 ∷ []
 
 -- the counts once x is free
 abbrev pub freeing : List ℕ → ℕ → List ℕ
-freeing cs x = (at cs 0 - 1) ∷ at cs 1 ∷ x ∷ []
+freeing cs x = (at cs 0 - 1) ∷ at cs 1 ∷ x ∷ at cs 3 ∷ []

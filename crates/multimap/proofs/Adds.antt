@@ -1,11 +1,12 @@
--- A round is added to a map: what the stores of `om_post` make of it. Assumes nothing.
+-- A round is added to a map: what its stores make of it. Assumes nothing.
 use Prim.Native.Nat.{ℕ, _<_}
 use mathlib.Core.Path.{refl, sym, subst}
 use native.Mathlib.Omega.{arith}
 use lib.ListN.{length}
+use Rattle.steps.specs.State.{maxRounds}
 use Rattle.links.specs.Links.{Links, recordIn}
 use Rattle.links.proofs.Chains.{added-some}
-use Rattle.multimap.specs.Map.{linksOf}
+use Rattle.multimap.specs.Map.{at, linksOf}
 use Rattle.multimap.specs.Arrays.{Arrays}
 use Rattle.multimap.specs.Changes.{withRound}
 use Rattle.multimap.specs.Adding.{Ready, AddedTo}
@@ -16,9 +17,12 @@ module _ (m : Arrays) (key : ℕ) (g : Ready m key) (v : ℕ) where
   sound : Sound m
   sound = record { sized = g .sized; chained = g .chained; index = g .index }
 
+  room : at (m .rounds) 0 < maxRounds
+  room = omega (arith, g .room, g .limited .allowed .rounds)
+
   pub adds : AddedTo m key v (withRound m key v)
   adds =
-      let s = round-sound m sound key (g .here) (g .room) v in
+      let s = round-sound m sound key (g .here) room v in
       record {
         linked =
             record {
@@ -26,12 +30,14 @@ module _ (m : Arrays) (key : ℕ) (g : Ready m key) (v : ℕ) where
               chained = s .chained;
               some =
                   λ j i.
-                  subst (λ (c : Links). 0 < length (recordIn c j)) (sym (round-links m sound key (g .here) (g .room) v))
-                  (added-some (linksOf m) (g .chained) key (g .here) (g .room) (g .others) j i);
+                  subst (λ (c : Links). 0 < length (recordIn c j)) (sym (round-links m sound key (g .here) room v))
+                  (added-some (linksOf m) (g .chained) key (g .here) room (g .others) j i);
               index = s .index;
               taken = omega arith;
+              limited = record { allowed = g .limited .allowed; members = g .limited .members; rounds = omega (arith, g .room) };
             };
-        pairs = round-pairs m sound key (g .here) (g .room) v;
+        pairs = round-pairs m sound key (g .here) room v;
         members = refl;
         taken = refl;
+        limits = refl;
       }

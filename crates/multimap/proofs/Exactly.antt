@@ -30,10 +30,10 @@ use Rattle.index.proofs.Search.{home-lt}
 use Rattle.index.proofs.Finds.{says-at, says-absent}
 use Rattle.index.proofs.Pigeon.{less-or-not}
 use Rattle.multimap.specs.Map.{at, pairAt, pairs, members, roundsOf, membersOf, linksOf}
-use Rattle.multimap.specs.WellLinked.{WellLinked}
+use Rattle.multimap.specs.WellLinked.{WellLinked, Limited}
 use Rattle.multimap.specs.Arrays.{Arrays}
 use Rattle.multimap.specs.Represents.{InUse, LeadsTo, Represents, Represented}
-use Rattle.multimap.proofs.Stores.{any-some, mem-tally, tally-mem}
+use Rattle.multimap.proofs.Stores.{any-some, mem-tally, tally-mem, length-pairs, length-members}
 use Rattle.multimap.proofs.Records.{filter-map, same-number, places-are, member-at}
 use Rattle.multimap.proofs.Represents as proper
 
@@ -190,6 +190,9 @@ module _ (m : Arrays) where
             };
         exactly = proper.represents m g .once;
         taken = g .taken;
+        allowed = g .limited .allowed;
+        few-members = proper.represents m g .members;
+        few-pairs = proper.represents m g .rounds;
       }
 
   module _ (P : List Pair) (K : List ℕ) (r : Represents m P K) where
@@ -274,19 +277,26 @@ module _ (m : Arrays) where
           any-one (eqb k) K (ap (any (eqb k)) (sym (r .members-are)) ∙ any-some (at (m .keys)) k x ks i refl) in
           omega (arith, many x i, has-pair k counted (has k P) refl)
 
-      well-linked-so : m .taken ≤ maxTaken → WellLinked m
-      well-linked-so t =
+      well-linked-so : m .taken ≤ maxTaken → Limited m → WellLinked m
+      well-linked-so t l =
           record {
             sized = r .sized;
             chained = chained;
             some = λ x i. some-round x (subst (λ (l : List ℕ). 0 < tally x l) members-are i);
             index = subst (Holds (m .index) (m .keys)) (sym members-are) holds;
             taken = t;
+            limited = l;
           }
 
   -- arrays that represent some such P and K are a well-linked map's
   pub well-linked : Represented m → WellLinked m
-  well-linked h = well-linked-so (h .pairs) (h .members) (h .represents) (h .exactly) (h .taken)
+  well-linked h =
+      well-linked-so (h .pairs) (h .members) (h .represents) (h .exactly) (h .taken)
+      record {
+        allowed = h .allowed;
+        members = omega (arith, h .few-members, ap length (own-members (h .pairs) (h .members) (h .represents)), length-members m);
+        rounds = omega (arith, h .few-pairs, ap length (own-pairs (h .pairs) (h .members) (h .represents)), length-pairs m);
+      }
 
   -- so a check that decides one decides the other
   pub decided : (b : Bool) → Decides b (WellLinked m) → Decides b (Represented m)

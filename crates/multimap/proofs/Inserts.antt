@@ -48,7 +48,7 @@ module _ (k v : ℕ) (m : Arrays) (g : WellLinked m) where
       left = d .pairs ∙ ap (λ (n : ℕ). others n (pairs m)) (u .number)
 
       state : stateOf r ≡ replace k v (stateOf m)
-      state = rw (a .pairs, a .members, a .taken, number, left, d .members, d .ledger, u .present)
+      state = rw (a .pairs, a .members, a .taken, a .limits, number, left, d .members, d .ledger .taken, d .ledger .limits, u .present)
 
       pub insert-known : Does linked (insert k v) m (say (round (at (m .values) (at (m .«next_index») (1024 + x))))) r
       insert-known =

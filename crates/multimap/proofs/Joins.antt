@@ -1,4 +1,4 @@
--- A member joins a map: what the stores of `om_post` make of it. Assumes nothing.
+-- A member joins a map: what its stores make of it. Assumes nothing.
 use Prim.Native.Nat.{ℕ}
 use mathlib.Core.Path.{_≡_, refl, ap}
 use mathlib.Core.Logic.{⊎-elim}
@@ -25,7 +25,7 @@ module _ (m : Arrays) (k p : ℕ) (h : Joins m k p) where
   admitted =
       record {
         sound = record { sized = h .linked .sized; chained = h .linked .chained; index = h .linked .index };
-        spare = h .spare;
+        spare = omega (arith, h .spare, h .linked .limited .allowed .members);
         vacant = h .vacant;
         new = h .new;
       }
@@ -42,6 +42,12 @@ module _ (m : Arrays) (k p : ℕ) (h : Joins m k p) where
             ⊎-elim (λ e. absurd (n e)) (λ i′. rw (ap (λ (c : Links). recordIn c j) (B.member-links m k p admitted)) (h .linked .some j i′))
             (B.old-or-new m k p admitted j i);
         index = s .index;
+        limited =
+            record {
+              allowed = h .linked .limited .allowed;
+              members = omega (arith, h .spare);
+              rounds = h .linked .limited .rounds;
+            };
         room = h .room;
       }
 
@@ -56,5 +62,5 @@ module _ (m : Arrays) (k p : ℕ) (h : Joins m k p) where
         number = rw last-now (B.member-number m k p admitted);
         pairs = B.member-pairs m k p admitted;
         members = B.member-members m k p admitted;
-        ledger = refl;
+        ledger = record { taken = refl; limits = refl };
       }

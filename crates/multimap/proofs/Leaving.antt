@@ -9,14 +9,16 @@ use borrow.Author.Tests.{eq-eqb, ne-eqb, eqb-false}
 use lib.Dec.{eqb}
 use lib.ListN.{length}
 use Rattle.steps.specs.Lists.{filter}
-use Rattle.steps.specs.State.{has, keep as keeping}
+use Rattle.steps.specs.State.{Limits, has, keep as keeping}
+use Rattle.steps.specs.Proper.{Allowed}
 use Rattle.links.specs.Route.{pick, tally, keep, strip}
 use Rattle.links.specs.Places.{Places, order}
 use Rattle.links.specs.Links.{recordOf, recordIn}
-use Rattle.links.proofs.Routes.{same-or-not, tally-same, tally-hit, tally-other, keep-all, keep-same, tally-keep}
-use Rattle.links.proofs.Strips.{strip-keep}
-use Rattle.multimap.specs.Map.{at, pairAt, pairs, members, roundsOf, membersOf, linksOf, stateOf}
-use Rattle.multimap.specs.WellLinked.{WellLinked}
+use Rattle.links.proofs.Routes.{same-or-not, tally-same, tally-hit, tally-other, keep-all, keep-same, tally-keep, length-keep}
+use Rattle.links.proofs.Lists.{length-order}
+use Rattle.links.proofs.Strips.{strip-keep, length-strip}
+use Rattle.multimap.specs.Map.{at, pairAt, pairs, members, roundsOf, membersOf, linksOf, limitsOf, stateOf}
+use Rattle.multimap.specs.WellLinked.{WellLinked, Limited}
 use Rattle.multimap.specs.Arrays.{Arrays}
 use Rattle.multimap.proofs.Records.{filter-map, same-number}
 use Rattle.multimap.specs.Strike.{Struck}
@@ -78,9 +80,41 @@ module _ (m : Arrays) (g : WellLinked m) (ws : List ℕ) (o : Arrays) (s : Struc
               let z : 0 < at (o .lengths) k = go k (eqb (at (o .lengths) k) 0) refl (subst (λ (l : List ℕ). 0 < tally k l) left i) in
               omega (arith, w .sound .chained .size k i, ap (λ (l : List ℕ). at l k) (w .kept .lengths));
           index = w .sound .index;
-          taken = rw (w .kept .ledger, s .kept .ledger) (g .taken);
+          taken = rw (w .kept .ledger .taken, s .kept .ledger .taken) (g .taken);
+          limited = limited;
         }
       where
+        limits : limitsOf r ≡ limitsOf m
+        limits = w .kept .ledger .limits ∙ s .kept .ledger .limits
+
+        limited : Limited r
+        limited =
+            record {
+              allowed = subst Allowed (sym limits) (g .limited .allowed);
+              members =
+                  omega (
+                    arith,
+                    g .limited .members,
+                    ap (λ (l : Limits). l .members) limits,
+                    length-order (membersOf r),
+                    ap length left,
+                    length-keep with-round (order (membersOf o)),
+                    ap length same-members,
+                    length-order (membersOf m),
+                  );
+              rounds =
+                  omega (
+                    arith,
+                    g .limited .rounds,
+                    ap (λ (l : Limits). l .rounds) limits,
+                    length-order (roundsOf r),
+                    ap (λ (l : Places). length (order l)) (w .kept .rounds),
+                    ap length (s .left),
+                    length-strip ws (order (roundsOf m)),
+                    length-order (roundsOf m),
+                  );
+            }
+
         go : (k : ℕ) (b : Bool) → eqb (at (o .lengths) k) 0 ≡ b → 0 < tally k (keep with-round (order (membersOf o))) → 0 < at (o .lengths) k
         go k true e i = absurd (omega (arith, i, tally-keep with-round k (order (membersOf o)), ap (λ (b : Bool). pick (not b) (tally k (order (membersOf o))) 0) e))
         go k false e i = let n = eqb-false (at (o .lengths) k) 0 e in omega arith
@@ -99,7 +133,7 @@ module _ (m : Arrays) (g : WellLinked m) (ws : List ℕ) (o : Arrays) (s : Struc
         ∙ sym (filter-map (λ n. has n (map (pairAt m) (order (roundsOf o)))) (at (m .keys)) (order (membersOf m)))
 
     pub left-state : stateOf r ≡ keeping (map (pairAt m) (order (roundsOf o))) (stateOf m)
-    left-state = rw (pairs-now, members-now, w .kept .ledger ∙ s .kept .ledger)
+    left-state = rw (pairs-now, members-now, w .kept .ledger .taken ∙ s .kept .ledger .taken, w .kept .ledger .limits ∙ s .kept .ledger .limits)
 
 -- every member of a well-linked map has a pair
 pub all-have : (m : Arrays) → WellLinked m → filter (λ n. has n (pairs m)) (members m) ≡ members m

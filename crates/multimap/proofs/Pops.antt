@@ -39,7 +39,7 @@ use Rattle.multimap.proofs.Leaving.{has-size, member-still, length-now,
 
 -- the pair p leaves P, and ps are the others: keeping these is what the step does
 keeping-others : (s : State) (p : Pair) (ps : List Pair) → filter (λ j. has j (s .pairs)) (s .members) ≡ s .members → ((j : ℕ) → has j (s .pairs) ≡ (of j p || has j ps)) → keeping ps s ≡ remove-pair p ps s
-keeping-others s p ps all h = ap (λ (l : List ℕ). record { pairs = ps; members = l; taken = s .taken }) (go (has (p .key) ps) refl)
+keeping-others s p ps all h = ap (λ (l : List ℕ). record { pairs = ps; members = l; taken = s .taken; limits = s .limits }) (go (has (p .key) ps) refl)
   where
     others : (j : ℕ) → eqb j (p .key) ≡ false → has j ps ≡ has j (s .pairs)
     others j e = sym (h j ∙ ap (λ (b : Bool). b || has j ps) e)
@@ -148,7 +148,7 @@ module _ (m : Arrays) (x : ℕ) (h : RoundPlace m x) where
         record {
           sound = struck-sound m g (x ∷ []) o s;
           left = refl;
-          kept = record { keys = refl; values = refl; key-index = refl; rounds = refl; next-index = refl; previous-index = refl; lengths = refl; ledger = refl };
+          kept = record { keys = refl; values = refl; key-index = refl; rounds = refl; next-index = refl; previous-index = refl; lengths = refl; ledger = record { taken = refl; limits = refl } };
         } in
         let all : (j : ℕ) → 0 < tally j (order (membersOf o)) → at (o .lengths) j ≢ 0 =
         λ j i. ⊎-elim (λ (u : j ≡ place). λ z. e (ap (at (o .lengths)) (sym u) ∙ z)) (others j i) (same-or-not j place) in

@@ -3,13 +3,13 @@ use Prim.Native.Nat.{ℕ, _≤_, _<_}
 use mathlib.Core.Path.{_≡_, refl}
 use mathlib.Core.Bool.{true, false}
 use Rattle.steps.specs.State as St
-use Rattle.steps.specs.State.{State, full, crowded, add, maxRounds, maxMembers}
+use Rattle.steps.specs.State.{State, full, crowded, add}
 use Rattle.steps.specs.Call.{append, refused, present}
 use Rattle.steps.specs.Step.{step, checks, act, say}
 use Rattle.steps.specs.Trace.{Does}
 use Rattle.steps.proofs.Doing.{does-refuse, does-change}
 use Rattle.links.specs.Places.{order}
-use Rattle.multimap.specs.Map.{at, membersOf, stateOf}
+use Rattle.multimap.specs.Map.{at, membersOf, limitsOf, stateOf}
 use Rattle.multimap.specs.WellLinked.{WellLinked, linked}
 use Rattle.multimap.specs.Arrays.{Arrays}
 use Rattle.multimap.proofs.Stores.{any-none}
@@ -19,23 +19,23 @@ use Rattle.multimap.specs.Adding.{Ready, AddedTo, Joins, Joined, Posted,
 
 module _ (m : Arrays) (k : ℕ) where
   -- a member is ready for a further round
-  pub ready-known : (key : ℕ) → WellLinked m → at (m .rounds) 0 < maxRounds → Member m k key → Ready m key
-  ready-known key g room h = record { sized = g .sized; chained = g .chained; here = h .member; others = λ j i n. g .some j i; index = g .index; room = room }
+  pub ready-known : (key : ℕ) → WellLinked m → at (m .rounds) 0 < limitsOf m .rounds → Member m k key → Ready m key
+  ready-known key g room h = record { sized = g .sized; chained = g .chained; here = h .member; others = λ j i n. g .some j i; index = g .index; limited = g .limited; room = room }
 
   -- who is no member can become one
-  pub joins-unknown : (p : ℕ) → WellLinked m → at (m .rounds) 0 < maxRounds → at (m .members) 0 < maxMembers → Unknown m k p → Joins m k p
+  pub joins-unknown : (p : ℕ) → WellLinked m → at (m .rounds) 0 < limitsOf m .rounds → at (m .members) 0 < limitsOf m .members → Unknown m k p → Joins m k p
   joins-unknown p g room spare h = record { linked = g; spare = spare; room = room; vacant = h .vacant; new = h .nobody .new }
 
   -- a further round of a member, and the first round of a new one
   pub posted-known : (key v : ℕ) (r : Arrays) → Member m k key → AddedTo m key v r → Posted m k v r
-  posted-known key v r h a = record { linked = a .linked; state = rw (a .pairs, a .members, a .taken, h .number, h .present) }
+  posted-known key v r h a = record { linked = a .linked; state = rw (a .pairs, a .members, a .taken, a .limits, h .number, h .present) }
 
   pub posted-new : (p v : ℕ) (o r : Arrays) → Joins m k p → Joined m k o → AddedTo o (lastKey o) v r → Posted m k v r
   posted-new p v o r h j a =
       record {
         linked = a .linked;
         state =
-            rw (a .pairs, a .members, a .taken, j .pairs, j .members, j .ledger, j .number, any-none (at (m .keys)) k (order (membersOf m)) (h .new));
+            rw (a .pairs, a .members, a .taken, a .limits, j .pairs, j .members, j .ledger .taken, j .ledger .limits, j .number, any-none (at (m .keys)) k (order (membersOf m)) (h .new));
       }
 
 -- ---- the step of `append`, case by case
@@ -58,12 +58,12 @@ module _ (k v : ℕ) (s : State) where
   step-new f p c = rw (f, p, c, p)
 
 module _ (k v : ℕ) (m : Arrays) where
-  pub append-full : WellLinked m → maxRounds ≤ at (m .rounds) 0 → Does linked (append k v) m (say (refused 1)) m
+  pub append-full : WellLinked m → limitsOf m .rounds ≤ at (m .rounds) 0 → Does linked (append k v) m (say (refused 1)) m
   append-full g h = does-refuse linked (append k v) m 1 g (step-full k v (stateOf m) (is-full m h))
 
-  pub append-crowded : (p : ℕ) → WellLinked m → at (m .rounds) 0 < maxRounds → Unknown m k p → maxMembers ≤ at (m .members) 0 → Does linked (append k v) m (say (refused 2)) m
+  pub append-crowded : (p : ℕ) → WellLinked m → at (m .rounds) 0 < limitsOf m .rounds → Unknown m k p → limitsOf m .members ≤ at (m .members) 0 → Does linked (append k v) m (say (refused 2)) m
   append-crowded p g h u c = does-refuse linked (append k v) m 2 g (step-crowded k v (stateOf m) (not-full m h) (u .nobody .absent) (is-crowded m c))
 
-  pub append-known : (key : ℕ) (r : Arrays) → at (m .rounds) 0 < maxRounds → Member m k key → Posted m k v r → Does linked (append k v) m (say (present true)) r
+  pub append-known : (key : ℕ) (r : Arrays) → at (m .rounds) 0 < limitsOf m .rounds → Member m k key → Posted m k v r → Does linked (append k v) m (say (present true)) r
   append-known key r h u a =
       does-change linked (append k v) m (say (present true)) (add k v (stateOf m)) r refl refl (step-known k v (stateOf m) (not-full m h) (u .present)) (a .state) (a .linked)

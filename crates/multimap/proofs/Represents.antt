@@ -71,7 +71,8 @@ module _ (m : Arrays) (g : WellLinked m) where
   represents =
       record {
         once = once;
-        rounds = omega (arith, length-pairs m, g .chained .rounds .some-used, g .chained .rounds .some-fresh);
-        members = omega (arith, length-members m, g .chained .members .some-used, g .chained .members .some-fresh);
+        rounds = omega (arith, length-pairs m, g .limited .rounds);
+        members = omega (arith, length-members m, g .limited .members);
         taken = g .taken;
+        allowed = g .limited .allowed;
       }

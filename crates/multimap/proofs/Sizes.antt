@@ -67,19 +67,22 @@ numbered m =
       «keys_len» = m .«keys_len»;
       «keys_fresh» = m .«keys_fresh»;
       «keys_free» = m .«keys_free»;
+      «keys_limit» = m .«keys_limit»;
       «values_len» = m .«values_len»;
       «values_fresh» = m .«values_fresh»;
       «values_free» = m .«values_free»;
+      «values_limit» = m .«values_limit»;
       taken = m .taken;
     }
 
--- three counts
-three : (l : List ℕ) → length l ≡ 3 → (at l 0 ∷ at l 1 ∷ at l 2 ∷ []) ≡ l
-three [] e = absurd (omega arith)
-three (x ∷ []) e = absurd (omega arith)
-three (x ∷ y ∷ []) e = absurd (omega arith)
-three (x ∷ y ∷ z ∷ []) e = refl
-three (x ∷ y ∷ z ∷ w ∷ l) e = absurd (omega arith)
+-- four counts
+four : (l : List ℕ) → length l ≡ 4 → (at l 0 ∷ at l 1 ∷ at l 2 ∷ at l 3 ∷ []) ≡ l
+four [] e = absurd (omega arith)
+four (x ∷ []) e = absurd (omega arith)
+four (x ∷ y ∷ []) e = absurd (omega arith)
+four (x ∷ y ∷ z ∷ []) e = absurd (omega arith)
+four (x ∷ y ∷ z ∷ w ∷ []) e = refl
+four (x ∷ y ∷ z ∷ w ∷ v ∷ l) e = absurd (omega arith)
 
 pub typed-back : (a : Arrays) → Sized a → arraysOf (recordOf a) ≡ a
 typed-back a s =
@@ -96,8 +99,8 @@ typed-back a s =
       «next_index» = there valuePlace valueNumber (λ x. refl) (a .«next_index») i;
       «previous_index» = there valuePlace valueNumber (λ x. refl) (a .«previous_index») i;
       index = a .index;
-      members = three (a .members) (s .members) i;
-      rounds = three (a .rounds) (s .rounds) i;
+      members = four (a .members) (s .members) i;
+      rounds = four (a .rounds) (s .rounds) i;
       taken = a .taken;
     }
 

@@ -8,15 +8,16 @@ use lib.Dec.{eqb}
 use lib.ListN.{length, length-map}
 use Rattle.steps.specs.Lists.{filter}
 use Rattle.steps.specs.State.{State, of}
+use Rattle.steps.specs.Proper.{Allowed}
 use Rattle.links.specs.Route.{tally, keep}
 use Rattle.links.specs.Places.{order}
 use Rattle.links.specs.Links.{recordIn}
 use Rattle.links.proofs.Routes.{keep-same}
 use Rattle.multimap.specs.Map.{at, pairAt, pairs, members, roundsOf, membersOf, linksOf, stateOf}
 use Rattle.multimap.specs.Arrays.{Arrays}
-use Rattle.multimap.specs.WellLinked.{WellLinked}
+use Rattle.multimap.specs.WellLinked.{WellLinked, Limited}
 use Rattle.multimap.specs.Sweep.{Sound}
-use Rattle.multimap.proofs.Stores.{mem-tally, tally-mem}
+use Rattle.multimap.proofs.Stores.{mem-tally, tally-mem, length-pairs, length-members}
 use Rattle.multimap.proofs.Records.{filter-map, same-number}
 
 pub linked-sound : (m : Arrays) → WellLinked m → Sound m
@@ -34,8 +35,39 @@ record-pairs m g x i =
 
 pub sound-linked : (m : Arrays) → WellLinked m → (r : Arrays) → Sound r → stateOf r ≡ stateOf m → WellLinked r
 sound-linked m g r h e =
-    record { sized = h .sized; chained = h .chained; some = some; index = h .index; taken = rw (ap (λ (s : State). s .taken) e) (g .taken) }
+    record {
+      sized = h .sized;
+      chained = h .chained;
+      some = some;
+      index = h .index;
+      taken = rw (ap (λ (s : State). s .taken) e) (g .taken);
+      limited = limited;
+    }
   where
+    limited : Limited r
+    limited =
+        record {
+          allowed = subst (λ (s : State). Allowed (s .limits)) (sym e) (g .limited .allowed);
+          members =
+              omega (
+                arith,
+                g .limited .members,
+                ap (λ (s : State). s .limits .members) e,
+                length-members r,
+                length-members m,
+                ap (λ (s : State). length (s .members)) e,
+              );
+          rounds =
+              omega (
+                arith,
+                g .limited .rounds,
+                ap (λ (s : State). s .limits .rounds) e,
+                length-pairs r,
+                length-pairs m,
+                ap (λ (s : State). length (s .pairs)) e,
+              );
+        }
+
     some : (x : ℕ) → 0 < tally x (order (membersOf r)) → 0 < length (recordIn (linksOf r) x)
     some x i =
         let k : ℕ = at (r .keys) x in

@@ -185,7 +185,7 @@ module _ (b : Bool) (m : Arrays) (start turns : ℕ) (h : Stretch b m start turn
         some = omega arith;
         sized = s;
         chained = h .chained;
-        kept = record { keys = refl; values = refl; key-index = refl; index = refl; members = refl; ledger = refl };
+        kept = record { keys = refl; values = refl; key-index = refl; index = refl; members = refl; ledger = record { taken = refl; limits = refl } };
         front = h .front;
         whole = h .whole;
         here = λ i. first-of (onward b (linksOf m)) start turns (h .back) (root b (linksOf m) k) i;
@@ -265,7 +265,7 @@ module _ (b : Bool) (m : Arrays) (start turns : ℕ) (h : Stretch b m start turn
                 key-index = t .kept .key-index;
                 index = t .kept .index;
                 members = t .kept .members;
-                ledger = t .kept .ledger;
+                ledger = record { taken = t .kept .ledger .taken; limits = t .kept .ledger .limits };
               };
               front = t .front;
               whole =

@@ -143,7 +143,7 @@ module _ (m : Arrays) (start turns : ℕ) (h : Sweepable m start turns) where
         some = omega arith;
         sized = s;
         sound = h .sound;
-        kept = record { keys = refl; values = refl; key-index = refl; rounds = refl; next-index = refl; previous-index = refl; lengths = refl; ledger = refl };
+        kept = record { keys = refl; values = refl; key-index = refl; rounds = refl; next-index = refl; previous-index = refl; lengths = refl; ledger = record { taken = refl; limits = refl } };
         front = h .front;
         whole = h .whole;
         here = λ i. first-of (at (m .«next_key»)) start turns (h .back) 256 i;
@@ -219,7 +219,7 @@ module _ (m : Arrays) (start turns : ℕ) (h : Sweepable m start turns) where
                 next-index = t .kept .next-index;
                 previous-index = t .kept .previous-index;
                 lengths = t .kept .lengths;
-                ledger = t .kept .ledger;
+                ledger = record { taken = t .kept .ledger .taken; limits = t .kept .ledger .limits };
               };
               front = t .front;
               whole = rw (add-one i) (gone ∙ order-without (membersOf o) (t .sound .chained .members) (t .front) q (ds ++ h .back) split);

@@ -4,13 +4,13 @@ use mathlib.Core.Path.{_≡_}
 use mathlib.Core.Logic.{_≢_}
 use mathlib.Core.List.{[], _∷_, _++_}
 use lib.ListN.{length}
-use Rattle.steps.specs.State.{add, maxMembers, maxRounds, maxTaken}
+use Rattle.steps.specs.State.{add, maxTaken}
 use Rattle.links.specs.Route.{tally}
 use Rattle.links.specs.Places.{order}
 use Rattle.links.specs.Links.{Chained, recordIn}
 use Rattle.index.specs.Table.{Holds, Vacant}
-use Rattle.multimap.specs.Map.{at, pairs, members, linksOf, membersOf, stateOf, ledgerOf}
-use Rattle.multimap.specs.WellLinked.{WellLinked}
+use Rattle.multimap.specs.Map.{at, pairs, members, linksOf, membersOf, limitsOf, stateOf, SameLedger}
+use Rattle.multimap.specs.WellLinked.{WellLinked, Limited}
 use Rattle.multimap.specs.Arrays.{Arrays, Sized}
 
 -- m is ready for a round of the member place `key`: the lists, the chains and the index are right, each member but perhaps that one has a
@@ -21,7 +21,8 @@ pub record Ready (m : Arrays) (key : ℕ) : Type 0 where
   pub here : 0 < tally key (order (membersOf m))
   pub others : (j : ℕ) → 0 < tally j (order (membersOf m)) → j ≢ key → 0 < length (recordIn (linksOf m) j)
   pub index : Holds (m .index) (m .keys) (order (membersOf m))
-  pub room : at (m .rounds) 0 < maxRounds
+  pub limited : Limited m
+  pub room : at (m .rounds) 0 < limitsOf m .rounds
 
 -- r is m with the round v of the member place `key` at the back
 pub record AddedTo (m : Arrays) (key v : ℕ) (r : Arrays) : Type 0 where
@@ -29,12 +30,13 @@ pub record AddedTo (m : Arrays) (key v : ℕ) (r : Arrays) : Type 0 where
   pub pairs : pairs r ≡ pairs m ++ (record { key = at (m .keys) key; value = v } ∷ [])
   pub members : members r ≡ members m
   pub taken : r .taken ≡ min (m .taken + 1) maxTaken
+  pub limits : limitsOf r ≡ limitsOf m
 
 -- k is no member of m and can become one; the search for it ended at the place p of the index
 pub record Joins (m : Arrays) (k p : ℕ) : Type 0 where
   pub linked : WellLinked m
-  pub spare : at (m .members) 0 < maxMembers
-  pub room : at (m .rounds) 0 < maxRounds
+  pub spare : at (m .members) 0 < limitsOf m .members
+  pub room : at (m .rounds) 0 < limitsOf m .rounds
   pub vacant : Vacant (m .index) k p
   pub new : (j : ℕ) → 0 < tally j (order (membersOf m)) → at (m .keys) j ≢ k
 
@@ -48,7 +50,7 @@ pub record Joined (m : Arrays) (k : ℕ) (r : Arrays) : Type 0 where
   pub number : at (r .keys) (lastKey r) ≡ k
   pub pairs : pairs r ≡ pairs m
   pub members : members r ≡ members m ++ (k ∷ [])
-  pub ledger : ledgerOf r ≡ ledgerOf m
+  pub ledger : SameLedger m r
 
 -- r is well-linked and is m with (k, v) added
 pub record Posted (m : Arrays) (k v : ℕ) (r : Arrays) : Type 0 where

@@ -8,7 +8,7 @@ use Rattle.index.specs.declared.KeyPlace.{KeyPlace}
 use Rattle.multimap.specs.declared.ValuePlace.{ValuePlace}
 use Rattle.multimap.specs.declared.ListOrderedMultimap.{ListOrderedMultimap}
 
--- `members` and `rounds` are how many places of the list are in use, how many have ever been, and the first freed one
+-- `members` and `rounds` are how many places of the list are in use, how many have ever been, the first freed one, and the map's limit of them
 pub record Arrays : Type 0 where
   pub keys : List ℕ
   pub lengths : List ℕ
@@ -57,8 +57,8 @@ pub record Sized (m : Arrays) : Type 0 where
   pub next-index : length (m .«next_index») ≡ 1280
   pub previous-index : length (m .«previous_index») ≡ 1280
   pub index : length (m .index) ≡ 512
-  pub members : length (m .members) ≡ 3
-  pub rounds : length (m .rounds) ≡ 3
+  pub members : length (m .members) ≡ 4
+  pub rounds : length (m .rounds) ≡ 4
 
 -- a place as a number, and a number as a place
 abbrev pub keyNumber : KeyPlace → ℕ
@@ -87,8 +87,8 @@ arraysOf m =
       «next_index» = map valueNumber (m .«next_index»);
       «previous_index» = map valueNumber (m .«previous_index»);
       index = m .index;
-      members = m .«keys_len» ∷ m .«keys_fresh» ∷ m .«keys_free» .0 ∷ [];
-      rounds = m .«values_len» ∷ m .«values_fresh» ∷ m .«values_free» .0 ∷ [];
+      members = m .«keys_len» ∷ m .«keys_fresh» ∷ m .«keys_free» .0 ∷ m .«keys_limit» ∷ [];
+      rounds = m .«values_len» ∷ m .«values_fresh» ∷ m .«values_free» .0 ∷ m .«values_limit» ∷ [];
       taken = m .taken;
     }
 
@@ -109,8 +109,10 @@ recordOf a =
       «keys_len» = at (a .members) 0;
       «keys_fresh» = at (a .members) 1;
       «keys_free» = keyPlace (at (a .members) 2);
+      «keys_limit» = at (a .members) 3;
       «values_len» = at (a .rounds) 0;
       «values_fresh» = at (a .rounds) 1;
       «values_free» = valuePlace (at (a .rounds) 2);
+      «values_limit» = at (a .rounds) 3;
       taken = a .taken;
     }

@@ -4,6 +4,7 @@ pub mod Lent
 pub mod Map
 pub mod Changes
 pub mod WellLinked
+pub mod Making
 pub mod Represents
 pub mod Links
 pub mod Adding

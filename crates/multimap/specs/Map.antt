@@ -1,7 +1,8 @@
--- What a map stands for: P, the list of pairs; K, the list of members; T, the rounds ever taken in.
+-- What a map stands for: P, the list of pairs; K, the list of members; T, the rounds ever taken in; and its limits.
 use Prim.Native.Nat.{ℕ}
+use mathlib.Core.Path.{_≡_}
 use mathlib.Core.List.{List, map}
-use Rattle.steps.specs.State.{State, Pair}
+use Rattle.steps.specs.State.{State, Limits, limit, Pair}
 use Rattle.links.specs.Places.{Places, order}
 use Rattle.links.specs.Links.{Links}
 use Rattle.multimap.specs.Arrays.{Arrays}
@@ -54,10 +55,15 @@ pairs m = map (pairAt m) (order (roundsOf m))
 abbrev pub members : Arrays → List ℕ
 members m = map (at (m .keys)) (order (membersOf m))
 
--- what no link touches: T, which is the counter
-abbrev pub ledgerOf : Arrays → ℕ
-ledgerOf m = m .taken
+-- the map's limits: the last of its counts
+abbrev pub limitsOf : Arrays → Limits
+limitsOf m = limit (at (m .members) 3) (at (m .rounds) 3)
 
--- P, K and T
+-- what no link touches is the same: T, which is the counter, and the limits
+pub record SameLedger (m r : Arrays) : Type 0 where
+  pub taken : r .taken ≡ m .taken
+  pub limits : limitsOf r ≡ limitsOf m
+
+-- P, K, T and the limits
 abbrev pub stateOf : Arrays → State
-stateOf m = record { pairs = pairs m; members = members m; taken = ledgerOf m }
+stateOf m = record { pairs = pairs m; members = members m; taken = m .taken; limits = limitsOf m }

@@ -6,13 +6,13 @@ use mathlib.Core.Logic.{_≢_}
 use mathlib.Core.List.{List, [], _∷_, _++_}
 use lib.Dec.{eqb}
 use lib.ListN.{length}
-use Rattle.steps.specs.State.{others, maxRounds}
+use Rattle.steps.specs.State.{others}
 use Rattle.links.specs.Route.{pick, tally, strip, walk}
 use Rattle.links.specs.Places.{order}
 use Rattle.links.specs.Links.{Links, recordIn, Chained}
 use Rattle.index.specs.Table.{Holds}
-use Rattle.multimap.specs.Map.{at, pairs, members, roundsOf, membersOf, linksOf, ledgerOf}
-use Rattle.multimap.specs.WellLinked.{WellLinked}
+use Rattle.multimap.specs.Map.{at, pairs, members, roundsOf, membersOf, linksOf, limitsOf, SameLedger}
+use Rattle.multimap.specs.WellLinked.{WellLinked, Limited}
 use Rattle.multimap.specs.Arrays.{Arrays, Sized}
 
 -- the places that are walked through: the record of the member place k, or all rounds; and the way from one to the next
@@ -48,7 +48,7 @@ pub record RoundsOnly (m r : Arrays) : Type 0 where
   pub key-index : r .«key_index» ≡ m .«key_index»
   pub index : r .index ≡ m .index
   pub members : membersOf r ≡ membersOf m
-  pub ledger : ledgerOf r ≡ ledgerOf m
+  pub ledger : SameLedger m r
 
 -- r is m without the rounds in the places ws
 pub record Struck (m : Arrays) (ws : List ℕ) (r : Arrays) : Type 0 where
@@ -76,7 +76,8 @@ pub record Emptied (m : Arrays) (k : ℕ) (r : Arrays) : Type 0 where
   pub none : recordIn (linksOf r) k ≡ []
   pub some : (j : ℕ) → 0 < tally j (order (membersOf r)) → j ≢ k → 0 < length (recordIn (linksOf r) j)
   pub keys : r .keys ≡ m .keys
-  pub ledger : ledgerOf r ≡ ledgerOf m
-  pub room : at (r .rounds) 0 < maxRounds
+  pub ledger : SameLedger m r
+  pub limited : Limited r
+  pub room : at (r .rounds) 0 < limitsOf r .rounds
   pub pairs : pairs r ≡ others (at (m .keys) k) (pairs m)
   pub members : members r ≡ members m

@@ -7,7 +7,7 @@ use Rattle.links.specs.Route.{keep, strip, walk}
 use Rattle.links.specs.Places.{order}
 use Rattle.links.specs.Links.{Chained}
 use Rattle.index.specs.Table.{Holds}
-use Rattle.multimap.specs.Map.{at, roundsOf, membersOf, linksOf, ledgerOf}
+use Rattle.multimap.specs.Map.{at, roundsOf, membersOf, linksOf, SameLedger}
 use Rattle.multimap.specs.Arrays.{Arrays, Sized}
 
 -- so many member places from `start` on, and those of them that have no round
@@ -39,7 +39,7 @@ pub record MembersOnly (m r : Arrays) : Type 0 where
   pub next-index : r .«next_index» ≡ m .«next_index»
   pub previous-index : r .«previous_index» ≡ m .«previous_index»
   pub lengths : r .lengths ≡ m .lengths
-  pub ledger : ledgerOf r ≡ ledgerOf m
+  pub ledger : SameLedger m r
 
 -- r is m without the members in the places ws
 pub record Swept (m : Arrays) (ws : List ℕ) (r : Arrays) : Type 0 where

@@ -3,7 +3,9 @@ pub mod places;
 
 use index::KeyPlace;
 ghost use mathlib.Core.Path.{_≡_};
-ghost use Rattle.steps.specs.State.{empty};
+ghost use Rattle.steps.specs.State.{empty, limit};
+ghost use Rattle.steps.specs.Step.{tooHigh, makeOf};
+ghost use Rattle.steps.specs.Proper.{Allowed};
 ghost use Rattle.links.specs.Stores.{at};
 ghost use Rattle.multimap.specs.Arrays.{arraysOf};
 ghost use Rattle.multimap.specs.Changes.{baseOf};
@@ -15,7 +17,7 @@ pub const MEMBERS: u16 = 256;
 pub const ROUNDS: u16 = 1024;
 
 // The map's arrays as the calls in place are lent them, in the record's order; a member place and a round place are numbers there, which is the
-// same memory. Counts are how many places are in use, how many have ever been, and the first freed one.
+// same memory. Counts are how many places are in use, how many have ever been, the first freed one, and the map's limit.
 pub type Keys = [u64; 256];
 
 pub type Lengths = [u16; 256];
@@ -32,7 +34,7 @@ pub type IndexLinks = [u16; 1280];
 
 pub type Index = [u16; 512];
 
-pub type Counts = [u16; 3];
+pub type Counts = [u16; 4];
 
 // A round's place in the map's arrays of rounds.
 #[repr(C)]
@@ -58,46 +60,34 @@ pub struct ListOrderedMultimap {
     pub previous_index: [ValuePlace; 1280],
     // The index: member places, or EMPTY.
     pub index: [u16; 512],
-    // How many places are in use, how many have ever been, and the first freed one; the other freed ones follow by next.
+    // How many places are in use, how many have ever been, and the first freed one, from which the others follow by next; and how many may be in use.
     pub keys_len: u16,
     pub keys_fresh: u16,
     pub keys_free: KeyPlace,
+    pub keys_limit: u16,
     pub values_len: u16,
     pub values_fresh: u16,
     pub values_free: ValuePlace,
+    pub values_limit: u16,
     // Rounds ever taken in.
     pub taken: u32,
 }
 
-// Makes the empty map.
-pub fn new() -> ListOrderedMultimap
-    ensures { λ r. ⌜ WellLinked (arraysOf r) × (stateOf (arraysOf r) ≡ empty) ⌝ }
+// Makes the empty map with these limits, and with both 0 where it may not have them.
+pub fn new(members: u64, rounds: u64) -> ListOrderedMultimap
+    ensures { λ r. ⌜ WellLinked (arraysOf r) × (stateOf (arraysOf r) ≡ makeOf (limit members rounds) .1) ⌝ }
 {
-    let mut out = ListOrderedMultimap {
-        keys: [0; 256],
-        length: [0; 256],
-        next_key: [KeyPlace(0); 257],
-        previous_key: [KeyPlace(0); 257],
-        values: [0; 1024],
-        key_index: [KeyPlace(0); 1024],
-        next_value: [ValuePlace(0); 1025],
-        previous_value: [ValuePlace(0); 1025],
-        next_index: [ValuePlace(0); 1280],
-        previous_index: [ValuePlace(0); 1280],
-        index: [index::EMPTY; 512],
-        keys_len: 0,
-        keys_fresh: 0,
-        keys_free: KeyPlace(0),
-        values_len: 0,
-        values_fresh: 0,
-        values_free: ValuePlace(0),
-        taken: 0,
-    };
-    out.next_key[256] = KeyPlace(MEMBERS);
-    out.previous_key[256] = KeyPlace(MEMBERS);
-    out.next_value[1024] = ValuePlace(ROUNDS);
-    out.previous_value[1024] = ValuePlace(ROUNDS);
-    out
+    if too_high(members, rounds) {
+        return bare(0, 0);
+    }
+    bare(members as u16, rounds as u16)
+}
+
+// Says whether a map may not have these limits: refusal 15.
+pub fn too_high(members: u64, rounds: u64) -> bool
+    ensures { λ r. ⌜ r ≡ tooHigh (limit members rounds) ⌝ }
+{
+    (MEMBERS as u64) < members || (ROUNDS as u64) < rounds
 }
 
 // Gives the cell at which the chain of a member's rounds begins and ends.
@@ -149,4 +139,38 @@ pub fn round(values: &Values, x: ValuePlace) -> u64
     ensures { λ r. ⌜ r ≡ at (now (values .entry)) (x .0) ⌝ }
 {
     links::get_wide(values, x.0)
+}
+
+// Makes the map with no place in use that has these limits.
+fn bare(keys_limit: u16, values_limit: u16) -> ListOrderedMultimap
+    requires { ⌜ Allowed (limit «keys_limit» «values_limit») ⌝ }
+    ensures { λ r. ⌜ WellLinked (arraysOf r) × (stateOf (arraysOf r) ≡ empty (limit «keys_limit» «values_limit»)) ⌝ }
+{
+    let mut out = ListOrderedMultimap {
+        keys: [0; 256],
+        length: [0; 256],
+        next_key: [KeyPlace(0); 257],
+        previous_key: [KeyPlace(0); 257],
+        values: [0; 1024],
+        key_index: [KeyPlace(0); 1024],
+        next_value: [ValuePlace(0); 1025],
+        previous_value: [ValuePlace(0); 1025],
+        next_index: [ValuePlace(0); 1280],
+        previous_index: [ValuePlace(0); 1280],
+        index: [index::EMPTY; 512],
+        keys_len: 0,
+        keys_fresh: 0,
+        keys_free: KeyPlace(0),
+        keys_limit,
+        values_len: 0,
+        values_fresh: 0,
+        values_free: ValuePlace(0),
+        values_limit,
+        taken: 0,
+    };
+    out.next_key[256] = KeyPlace(MEMBERS);
+    out.previous_key[256] = KeyPlace(MEMBERS);
+    out.next_value[1024] = ValuePlace(ROUNDS);
+    out.previous_value[1024] = ValuePlace(ROUNDS);
+    out
 }

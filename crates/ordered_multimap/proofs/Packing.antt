@@ -18,7 +18,8 @@ use Rattle.ordered_multimap.specs.Turned.{TurnedTyped}
 abbrev pub apart : ListOrderedMultimap → (nk pk ki nv pv ni pi : List ℕ) → Arrays
 apart m nk pk ki nv pv ni pi =
     arrays (m .keys) (m .length) nk pk (m .values) ki nv pv ni pi (m .index)
-    (m .«keys_len» ∷ m .«keys_fresh» ∷ m .«keys_free» .0 ∷ []) (m .«values_len» ∷ m .«values_fresh» ∷ m .«values_free» .0 ∷ []) (m .taken)
+    (m .«keys_len» ∷ m .«keys_fresh» ∷ m .«keys_free» .0 ∷ m .«keys_limit» ∷ [])
+    (m .«values_len» ∷ m .«values_fresh» ∷ m .«values_free» .0 ∷ m .«values_limit» ∷ []) (m .taken)
 
 pub unpacked : (m : ListOrderedMultimap) {nk pk ki nv pv ni pi : List ℕ}
     → nk ≡ map keyNumber (m .«next_key») → pk ≡ map keyNumber (m .«previous_key») → ki ≡ map keyNumber (m .«key_index»)
@@ -45,9 +46,11 @@ recordWith a nk pk ki nv pv ni pi =
       «keys_len» = at (a .members) 0;
       «keys_fresh» = at (a .members) 1;
       «keys_free» = keyPlace (at (a .members) 2);
+      «keys_limit» = at (a .members) 3;
       «values_len» = at (a .rounds) 0;
       «values_fresh» = at (a .rounds) 1;
       «values_free» = valuePlace (at (a .rounds) 2);
+      «values_limit» = at (a .rounds) 3;
       taken = a .taken;
     }
 

@@ -7,14 +7,15 @@ use answers::Answer;
 use index::KeyPlace;
 pub use multimap::ListOrderedMultimap;
 use multimap::ValuePlace;
-pub use multimap::new;
 use multimap::places;
 ghost use mathlib.Core.List.{[]};
+ghost use Rattle.steps.specs.State.{limit};
 ghost use Rattle.steps.specs.Call.{callOf, lends, lendsTwo, lend};
 ghost use Rattle.steps.specs.Call as C;
 ghost use Rattle.steps.specs.Step.{say, write};
 ghost use Rattle.steps.specs.Trace.{Does};
 ghost use Rattle.multimap.specs.Arrays.{arraysOf};
+ghost use Rattle.multimap.specs.Making.{Makes};
 ghost use Rattle.multimap.specs.WellLinked.{WellLinked, typed};
 ghost use Rattle.answers.specs.Answers.{answerOf};
 ghost use Rattle.turn.specs.Turned.{had};
@@ -24,6 +25,23 @@ ghost use Rattle.ordered_multimap.specs.Turned.{TurnedTyped};
 pub struct Reply {
     pub map: ListOrderedMultimap,
     pub answer: Answer,
+}
+
+// Makes the empty map with these limits; a refused making gives it with both limits 0.
+pub fn new(members: u64, rounds: u64) -> Reply
+    ensures { λ r. ⌜ Makes (limit members rounds) (answerOf (r .answer)) (arraysOf (r .map)) ⌝ }
+{
+    let map = multimap::new(members, rounds);
+    if multimap::too_high(members, rounds) {
+        return Reply {
+            map,
+            answer: Answer::Refused(15),
+        };
+    }
+    Reply {
+        map,
+        answer: Answer::Done,
+    }
 }
 
 // Adds a round v of the member k at the back, and says whether k was there.
@@ -213,8 +231,8 @@ pub extern "C" fn om_turn(
     let mut index = m.index;
     let keys_free = m.keys_free;
     let values_free = m.values_free;
-    let mut members = [m.keys_len, m.keys_fresh, keys_free.0];
-    let mut rounds = [m.values_len, m.values_fresh, values_free.0];
+    let mut members = [m.keys_len, m.keys_fresh, keys_free.0, m.keys_limit];
+    let mut rounds = [m.values_len, m.values_fresh, values_free.0, m.values_limit];
     let mut taken = m.taken;
     turn::om_call(
         &mut keys, &mut lengths, &mut next_key, &mut previous_key, &mut values, &mut key_index, &mut next_value, &mut previous_value,
@@ -229,8 +247,8 @@ pub extern "C" fn om_turn(
     let previous_index = places::index_links_typed(previous_index);
     ListOrderedMultimap {
         keys, length: lengths, next_key, previous_key, values, key_index, next_value, previous_value, next_index, previous_index, index,
-        keys_len: members[0], keys_fresh: members[1], keys_free: KeyPlace(members[2]),
-        values_len: rounds[0], values_fresh: rounds[1], values_free: ValuePlace(rounds[2]), taken,
+        keys_len: members[0], keys_fresh: members[1], keys_free: KeyPlace(members[2]), keys_limit: members[3],
+        values_len: rounds[0], values_fresh: rounds[1], values_free: ValuePlace(rounds[2]), values_limit: rounds[3], taken,
     }
 }
 

@@ -1,28 +1,32 @@
 -- A map with no place in use, and the step of `clear`. Assumes nothing.
 use Prim.Native.Nat.{ℕ, _≤_, _<_}
-use mathlib.Core.Path.{_≡_, refl, sym, subst}
+use mathlib.Core.Path.{_≡_, refl, ap, sym, subst, _∙_}
+use mathlib.Core.Bool.{Bool, true, false}
 use mathlib.Core.List.{List, []}
 use native.Mathlib.Omega.{arith}
 use lib.ListN.{length, set, replicate, length-set, length-replicate}
 use lib.Seq.{getD-set-same}
-use Rattle.steps.specs.State.{State, maxTaken, empty}
-use Rattle.steps.specs.Call.{clear, done}
+use Rattle.steps.specs.State.{State, Limits, limit, maxTaken, empty}
+use Rattle.steps.specs.Call.{Answer, clear, refused, done}
 use Rattle.steps.specs.Coded.{coded}
-use Rattle.steps.specs.Step.{step, checks, act, say}
+use Rattle.steps.specs.Step.{step, checks, act, say, tooHigh, makeOf}
+use Rattle.steps.specs.Proper.{Allowed}
 use Rattle.steps.specs.Trace.{Does}
 use Rattle.steps.specs.Told.{Told}
 use Rattle.steps.proofs.Doing.{does-change}
+use Rattle.steps.proofs.Limits.{made-refused, made-done, allowed}
 use Rattle.index.specs.Table.{emptyIndex}
 use Rattle.index.proofs.Table.{empty-holds}
 use Rattle.multimap.specs.Arrays.{Arrays, Sized, arrays}
-use Rattle.multimap.specs.Map.{at, stateOf}
+use Rattle.multimap.specs.Map.{at, limitsOf, stateOf}
+use Rattle.multimap.specs.Making.{Made}
 use Rattle.multimap.specs.WellLinked.{WellLinked, linked}
 use Rattle.multimap.proofs.Empty.{empty-map}
-use Rattle.packing.specs.Cleared.{cleared}
+use Rattle.packing.specs.Cleared.{unused, cleared, zeros}
 
--- no pair and no member, and this T
-abbrev nothing : ℕ → State
-nothing t = record { pairs = []; members = []; taken = t }
+-- no pair and no member, this T and these limits
+abbrev nothing : ℕ → Limits → State
+nothing t l = record { pairs = []; members = []; taken = t; limits = l }
 
 -- an end cell that leads to itself
 end-cell : (t : List ℕ) (n i : ℕ) → length t ≡ n → i < n → at (set t i i) i ≡ i
@@ -33,7 +37,7 @@ module _ (a : Arrays) where
   pub vacated : {nk pk nv pv : List ℕ} → nk ≡ set (a .«next_key») 256 256 → pk ≡ set (a .«previous_key») 256 256
       → nv ≡ set (a .«next_value») 1024 1024 → pv ≡ set (a .«previous_value») 1024 1024
       → arrays (a .keys) (a .lengths) nk pk (a .values) (a .«key_index») nv pv (a .«next_index») (a .«previous_index»)
-      emptyIndex (replicate 3 0) (replicate 3 0) (a .taken) ≡ cleared a
+      emptyIndex (unused (at (a .members) 3)) (unused (at (a .rounds) 3)) (a .taken) ≡ cleared a
   vacated nk pk nv pv = rw (pv, nv, pk, nk)
 
   cleared-sized : Sized a → Sized (cleared a)
@@ -55,36 +59,33 @@ module _ (a : Arrays) where
       }
 
   -- whatever the arrays held, they hold a map with no pair and no member
-  pub cleared-map : Sized a → a .taken ≤ maxTaken → WellLinked (cleared a) × (stateOf (cleared a) ≡ nothing (a .taken))
-  cleared-map s t =
+  pub cleared-map : Sized a → Allowed (limitsOf a) → a .taken ≤ maxTaken
+      → WellLinked (cleared a) × (stateOf (cleared a) ≡ nothing (a .taken) (limitsOf a))
+  cleared-map s l t =
       empty-map (cleared a) refl refl (a .taken) refl refl refl
       (end-cell (a .«next_value») 1025 1024 (s .next-value) (omega arith))
       (end-cell (a .«previous_value») 1025 1024 (s .previous-value) (omega arith))
       (end-cell (a .«next_key») 257 256 (s .next-key) (omega arith)) (end-cell (a .«previous_key») 257 256 (s .previous-key) (omega arith))
-      (cleared-sized s) (empty-holds (a .keys)) (omega arith)
+      (cleared-sized s) (empty-holds (a .keys)) l (omega arith)
 
-step-clear : (s : State) → step clear s ≡ (say done, nothing (s .taken))
+step-clear : (s : State) → step clear s ≡ (say done, nothing (s .taken) (s .limits))
 unfolding step checks act
 step-clear s = refl
 
 module _ (a : Arrays) (g : WellLinked a) where
   clears : Does linked clear a (say done) (cleared a)
   clears =
-      let e = cleared-map a (g .sized) (g .taken) in
-      does-change linked clear a (say done) (nothing (a .taken)) (cleared a) refl refl (step-clear (stateOf a)) (e .1) (e .0)
+      let e = cleared-map a (g .sized) (g .limited .allowed) (g .taken) in
+      does-change linked clear a (say done) (nothing (a .taken) (limitsOf a)) (cleared a) refl refl (step-clear (stateOf a)) (e .1) (e .0)
 
   pub told-clear : (r : Arrays) → r ≡ cleared a → (ans : List ℕ) → ans ≡ coded done → Told linked clear a r [] [] ans
   told-clear r e ans w =
       record { outcome = say done; does = subst (Does linked clear a (say done)) (sym e) clears; out-is = refl; out2-is = refl; ans-is = w }
 
--- the arrays of a new map before `vacate`, which takes no notice of the index and the counts
-abbrev blank : Arrays
-blank =
-    arrays (replicate 256 0) (replicate 256 0) (replicate 257 0) (replicate 257 0) (replicate 1024 0) (replicate 1024 0) (replicate 1025 0)
-    (replicate 1025 0) (replicate 1280 0) (replicate 1280 0) emptyIndex (replicate 3 0) (replicate 3 0) 0
+-- ---- a new map
 
-blank-sized : Sized blank
-blank-sized =
+zeros-sized : (m r : ℕ) → Sized (zeros m r)
+zeros-sized m r =
     record {
       keys = length-replicate {A = ℕ} 256 0;
       lengths = length-replicate {A = ℕ} 256 0;
@@ -101,5 +102,30 @@ blank-sized =
       rounds = refl;
     }
 
-pub new-map : (r : Arrays) → r ≡ cleared blank → WellLinked r × (stateOf r ≡ empty)
-new-map r e = subst (λ (b : Arrays). WellLinked b × (stateOf b ≡ empty)) (sym e) (cleared-map blank blank-sized (omega arith))
+new-map : (l : Limits) → Allowed l
+    → WellLinked (cleared (zeros (l .members) (l .rounds))) × (stateOf (cleared (zeros (l .members) (l .rounds))) ≡ empty l)
+new-map l a = cleared-map (zeros (l .members) (l .rounds)) (zeros-sized (l .members) (l .rounds)) a (omega arith)
+
+-- what is made with the limits l is the map with the limits k
+module _ (l k : Limits) (allowed : Allowed k) (a : Answer) (is : makeOf l ≡ (a, empty k)) where
+  made : {o : Arrays} {ans : List ℕ} → o ≡ cleared (zeros (k .members) (k .rounds)) → ans ≡ coded a → Made l o ans
+  made e w =
+      record {
+        answer = a;
+        makes = record {
+          answer = sym (ap (λ (r : Answer × State). r .0) is);
+          state = ap stateOf e ∙ new-map k allowed .1 ∙ sym (ap (λ (r : Answer × State). r .1) is);
+          linked = subst WellLinked (sym e) (new-map k allowed .0);
+        };
+        ans-is = w;
+      }
+
+module _ (l : Limits) {b : Bool} (high : b ≡ tooHigh l) where
+  pub may-have : b ≡ false → Allowed l
+  may-have h = allowed l (sym high ∙ h)
+
+  pub made-none : b ≡ true → {o : Arrays} {ans : List ℕ} → o ≡ cleared (zeros 0 0) → ans ≡ coded (refused 15) → Made l o ans
+  made-none h = made l (limit 0 0) (record { members = omega arith; rounds = omega arith }) (refused 15) (made-refused l (sym high ∙ h))
+
+  pub made-new : b ≡ false → {o : Arrays} {ans : List ℕ} → o ≡ cleared (zeros (l .members) (l .rounds)) → ans ≡ coded done → Made l o ans
+  made-new h = made l l (may-have h) done (made-done l (sym high ∙ h))

@@ -34,6 +34,7 @@ module _ (owners scores : List ℕ) (n : ℕ) (m : Arrays) (g : Fillable owners 
         fresh = ap (λ (cs : List ℕ). at cs 1) (g .none);
         keys = refl;
         members = refl;
+        limits = refl;
       }
 
   module _ (j : ℕ) (r : Arrays) (f : Filled m owners scores j r) (more : j < n) where
@@ -65,6 +66,7 @@ module _ (owners scores : List ℕ) (n : ℕ) (m : Arrays) (g : Fillable owners 
           fresh = fresh-up (r .rounds) j held (f .fresh) (r .«next_value») (omega (arith, g .few));
           keys = f .keys;
           members = f .members;
+          limits = f .limits;
         }
 
 -- the loop: it begins, goes on and ends

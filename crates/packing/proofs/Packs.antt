@@ -7,7 +7,7 @@ use mathlib.Core.List.{List, [], map}
 use native.Mathlib.Omega.{arith}
 use lib.Dec.{ltb}
 use lib.ListN.{length, getD}
-use Rattle.steps.specs.State.{State, maxMembers, maxRounds}
+use Rattle.steps.specs.State.{State}
 use Rattle.steps.specs.Call.{pack-to, refused, done}
 use Rattle.steps.specs.Coded.{coded}
 use Rattle.steps.specs.Step.{step, checks, act, say}
@@ -17,7 +17,7 @@ use Rattle.links.specs.Route.{tally}
 use Rattle.links.specs.Places.{Places, order, Linked}
 use Rattle.links.proofs.Lists.{length-order, in-array, order-distinct}
 use Rattle.multimap.specs.Arrays.{Arrays, Sized, arrays}
-use Rattle.multimap.specs.Map.{at, pairAt, pairs, members, roundsOf, membersOf, stateOf}
+use Rattle.multimap.specs.Map.{at, pairAt, pairs, members, roundsOf, membersOf, limitsOf, stateOf}
 use Rattle.multimap.specs.WellLinked.{WellLinked, linked}
 use Rattle.multimap.proofs.Stores.{tally-mem, length-pairs, length-members}
 use Rattle.multimap.proofs.Copies.{getD-in}
@@ -39,12 +39,12 @@ module _ (a b : ℕ) (s : State) where
   unfolding step checks act
   step-rounds e f = rw (e, f)
 
-  step-above : ltb a (length (s .members)) ≡ false → ltb b (length (s .pairs)) ≡ false → (ltb maxMembers a || ltb maxRounds b) ≡ true
+  step-above : ltb a (length (s .members)) ≡ false → ltb b (length (s .pairs)) ≡ false → (ltb (s .limits .members) a || ltb (s .limits .rounds) b) ≡ true
       → step (pack-to a b) s ≡ (say (refused 6), s)
   unfolding step checks act
   step-above e f h = rw (e, f, h)
 
-  step-done : ltb a (length (s .members)) ≡ false → ltb b (length (s .pairs)) ≡ false → (ltb maxMembers a || ltb maxRounds b) ≡ false
+  step-done : ltb a (length (s .members)) ≡ false → ltb b (length (s .pairs)) ≡ false → (ltb (s .limits .members) a || ltb (s .limits .rounds) b) ≡ false
       → step (pack-to a b) s ≡ (say done, s)
   unfolding step checks act
   step-done e f h = rw (e, f, h)
@@ -69,10 +69,11 @@ module _ (a b : ℕ) (m : Arrays) (g : WellLinked m) (ans : List ℕ) where
       fit-rounds : ltb b (length (pairs m)) ≡ false
       fit-rounds = ap (ltb b) (length-pairs m) ∙ room
 
-      pub told-above : (ltb maxMembers a || ltb maxRounds b) ≡ true → ans ≡ coded (refused 6) → Told linked (pack-to a b) m m [] [] ans
+      pub told-above : (ltb (limitsOf m .members) a || ltb (limitsOf m .rounds) b) ≡ true → ans ≡ coded (refused 6)
+          → Told linked (pack-to a b) m m [] [] ans
       told-above h = told-refused 6 (step-above a b (stateOf m) fit-members fit-rounds h)
 
-      pub told-packed : (ltb maxMembers a || ltb maxRounds b) ≡ false → {r : Arrays} → Repacked m r → ans ≡ coded done
+      pub told-packed : (ltb (limitsOf m .members) a || ltb (limitsOf m .rounds) b) ≡ false → {r : Arrays} → Repacked m r → ans ≡ coded done
           → Told linked (pack-to a b) m r [] [] ans
       told-packed h {r} p w =
           record {
@@ -132,15 +133,16 @@ module _ (m : Arrays) (g : WellLinked m) where
   pub rounds-distinct : Distinct (order (roundsOf m)) 1024
   rounds-distinct = distinct (roundsOf m) (g .chained .rounds)
 
-  pub none-seated : (numbers : List ℕ) {o : Arrays} → o ≡ cleared m → Seated numbers 0 o
+  pub none-seated : (numbers : List ℕ) {o : Arrays} → o ≡ cleared m → Seated numbers (limitsOf o) 0 o
   none-seated numbers e =
-      subst (Seated numbers 0) (sym e)
+      subst (λ (o : Arrays). Seated numbers (limitsOf o) 0 o) (sym e)
       (record {
-        sound = linked-sound (cleared m) (cleared-map m (g .sized) (g .taken) .0);
+        sound = linked-sound (cleared m) (cleared-map m (g .sized) (g .limited .allowed) (g .taken) .0);
         members = refl;
         places = refl;
         fresh = refl;
         none = refl;
+        limits = refl;
       })
 
   module _ (numbers ranks : List ℕ) (a : MembersCopied (m .keys) (order (membersOf m)) (length (order (membersOf m))) numbers ranks) where
@@ -167,7 +169,7 @@ module _ (m : Arrays) (g : WellLinked m) where
 
     module _ (owners scores : List ℕ)
         (b : RoundsCopied (m .values) (m .«key_index») ranks (order (roundsOf m)) (length (order (roundsOf m))) owners scores)
-        (s : Arrays) (t : Seated numbers (at (m .members) 0) s) where
+        (s : Arrays) (t : Seated numbers (limitsOf m) (at (m .members) 0) s) where
       -- the member place of the j-th round
       abbrev old : ℕ → ℕ
       old j = at (m .«key_index») (getD vs j 0)
@@ -215,7 +217,7 @@ module _ (m : Arrays) (g : WellLinked m) where
         p = retaken r (m .taken)
 
         same-state : stateOf p ≡ stateOf m
-        same-state = rw (same-pairs, same-members)
+        same-state = rw (same-pairs, same-members, f .limits ∙ t .limits)
 
         pub repacked : Repacked m (retaken r (m .taken))
         repacked =
@@ -236,14 +238,14 @@ module _ (m : Arrays) (g : WellLinked m) where
 module _ (m : Arrays) (g : WellLinked m) {numbers ranks : List ℕ}
     (a : MembersCopied (m .keys) (order (membersOf m)) (length (order (membersOf m))) numbers ranks)
     {n : ℕ} (en : n ≡ at (m .members) 0) where
-  pub seat-ready : {o : Arrays} → o ≡ cleared m → Seated numbers 0 o × Apart numbers n
+  pub seat-ready : {o : Arrays} → o ≡ cleared m → Seated numbers (limitsOf o) 0 o × Apart numbers n
   seat-ready e = (none-seated m g numbers e, rw en (numbers-apart m g numbers ranks a))
 
   module _ {owners scores : List ℕ}
       (b : RoundsCopied (m .values) (m .«key_index») ranks (order (roundsOf m)) (length (order (roundsOf m))) owners scores)
-      {l : ℕ} (el : l ≡ at (m .rounds) 0) {s : Arrays} (t : Seated numbers n s) where
-    seated : Seated numbers (at (m .members) 0) s
-    seated = subst (λ (i : ℕ). Seated numbers i s) en t
+      {l : ℕ} (el : l ≡ at (m .rounds) 0) {o s : Arrays} (e : o ≡ cleared m) (t : Seated numbers (limitsOf o) n s) where
+    seated : Seated numbers (limitsOf m) (at (m .members) 0) s
+    seated = subst (λ (i : ℕ). Seated numbers (limitsOf m) i s) en (subst (λ (o : Arrays). Seated numbers (limitsOf o) n s) e t)
 
     pub fill-ready : Fillable owners l s
     fill-ready = rw el (fillable m g numbers ranks a owners scores b s seated)

@@ -5,6 +5,7 @@ use mathlib.Core.List.{List, [], _∷_, _++_, map}
 use native.Mathlib.Omega.{arith}
 use borrow.Author.Tests.{eq-eqb}
 use lib.ListN.{length}
+use Rattle.steps.specs.State.{Limits}
 use Rattle.links.specs.Places.{order}
 use Rattle.links.specs.Stores.{spot, taking}
 use Rattle.links.proofs.Lists.{length-order}
@@ -28,7 +29,7 @@ module _ (cs : List ℕ) (n : ℕ) (len : at cs 0 ≡ n) (fresh : at cs 1 ≡ n)
   pub fresh-up : (next : List ℕ) → n < 65535 → at (taking next cs) 1 ≡ n + 1
   fresh-up next h = rw (eq-eqb (at cs 0) (at cs 1) (len ∙ sym fresh)) (omega arith)
 
-module _ (numbers : List ℕ) (i : ℕ) (m : Arrays) (s : Seated numbers i m) where
+module _ (numbers : List ℕ) {limits : Limits} (i : ℕ) (m : Arrays) (s : Seated numbers limits i m) where
   held : at (m .members) 0 ≡ i
   held = sym (length-order (membersOf m)) ∙ ap length (s .places) ∙ length-up i
 
@@ -44,7 +45,7 @@ module _ (numbers : List ℕ) (i : ℕ) (m : Arrays) (s : Seated numbers i m) wh
       a .apart (x .0) i low more (sym (number (x .0) low) ∙ w .3)
 
   pub seat-more : i < 256 → (p l : ℕ) → search (m .index) (m .keys) (at numbers i) ≡ Absent p l
-      → Seated numbers (i + 1) (withMember m (at numbers i) p)
+      → Seated numbers limits (i + 1) (withMember m (at numbers i) p)
   seat-more h p l e =
       let k : ℕ = at numbers i in
       let a : Admits m k p = admits m (s .sound) (rw held h) k p l e in
@@ -58,18 +59,19 @@ module _ (numbers : List ℕ) (i : ℕ) (m : Arrays) (s : Seated numbers i m) wh
             ∙ sym (up-more i);
         fresh = fresh-up (m .members) i held (s .fresh) (m .«next_key») (omega arith);
         none = s .none;
+        limits = s .limits;
       }
 
 -- the loop: it goes on and ends
-abbrev pub Seating : List ℕ → ℕ → ℕ → Arrays → Type 0
-Seating numbers n i m = (i ≤ n) × Seated numbers i m
+abbrev pub Seating : List ℕ → Limits → ℕ → ℕ → Arrays → Type 0
+Seating numbers limits n i m = (i ≤ n) × Seated numbers limits i m
 
-module _ (numbers : List ℕ) (n i : ℕ) (m : Arrays) (s : Seating numbers n i m) where
+module _ (numbers : List ℕ) {limits : Limits} (n i : ℕ) (m : Arrays) (s : Seating numbers limits n i m) where
   pub seating-more : Apart numbers n → i < n → {k : ℕ} → k ≡ at numbers i → (p l : ℕ) → search (m .index) (m .keys) k ≡ Absent p l
-      → {o : Arrays} → o ≡ withMember m k p → Seating numbers n (i + 1) o
+      → {o : Arrays} → o ≡ withMember m k p → Seating numbers limits n (i + 1) o
   seating-more a more {k} ek p l e {o} is = (
     omega arith,
-    subst (Seated numbers (i + 1)) (sym (is ∙ ap (λ (x : ℕ). withMember m x p) ek))
+    subst (Seated numbers limits (i + 1)) (sym (is ∙ ap (λ (x : ℕ). withMember m x p) ek))
         (seat-more numbers i m (s .1) (omega (arith, a .few)) p l (sym (ap (search (m .index) (m .keys)) ek) ∙ e)),
   )
 
@@ -77,5 +79,5 @@ module _ (numbers : List ℕ) (n i : ℕ) (m : Arrays) (s : Seating numbers n i 
       → search (m .index) (m .keys) k ≡ At p x l → ⊥
   seating-found a more ek p l x e = not-seated numbers i m (s .1) n a more p l x (sym (ap (search (m .index) (m .keys)) ek) ∙ e)
 
-  pub seating-all : n ≤ i → Seated numbers n m
-  seating-all e = let is : i ≡ n = omega (arith, s .0) in subst (λ (x : ℕ). Seated numbers x m) is (s .1)
+  pub seating-all : n ≤ i → Seated numbers limits n m
+  seating-all e = let is : i ≡ n = omega (arith, s .0) in subst (λ (x : ℕ). Seated numbers limits x m) is (s .1)

@@ -3,13 +3,15 @@ use Prim.Native.Nat.{ℕ, suc, _≤_, _<_}
 use mathlib.Core.Path.{_≡_}
 use mathlib.Core.Logic.{_≢_}
 use mathlib.Core.List.{List, map}
-use lib.ListN.{length, getD, replicate}
+use lib.ListN.{length, getD}
+use Rattle.steps.specs.State.{Limits}
 use Rattle.links.specs.Route.{tally, walk}
 use Rattle.links.specs.Places.{order}
 use Rattle.multimap.specs.Arrays.{Arrays}
-use Rattle.multimap.specs.Map.{at, pairs, members, roundsOf, membersOf, stateOf}
+use Rattle.multimap.specs.Map.{at, pairs, members, roundsOf, membersOf, limitsOf, stateOf}
 use Rattle.multimap.specs.Sweep.{Sound}
 use Rattle.multimap.specs.WellLinked.{WellLinked, Packed}
+use Rattle.packing.specs.Cleared.{unused}
 
 -- 0, 1, .. n - 1
 abbrev pub upTo : ℕ → List ℕ
@@ -48,18 +50,19 @@ pub record Apart (numbers : List ℕ) (n : ℕ) : Type 0 where
   pub few : n ≤ 256
   pub apart : (i j : ℕ) → i < j → j < n → at numbers i ≢ at numbers j
 
--- the first n of the numbers are m's members, in the places from 0 on, and m has no round and never had one
-pub record Seated (numbers : List ℕ) (n : ℕ) (m : Arrays) : Type 0 where
+-- the first n of the numbers are m's members, in the places from 0 on, m has no round and never had one, and its limits are l
+pub record Seated (numbers : List ℕ) (l : Limits) (n : ℕ) (m : Arrays) : Type 0 where
   pub sound : Sound m
   pub members : members m ≡ map (at numbers) (upTo n)
   pub places : order (membersOf m) ≡ upTo n
   pub fresh : at (m .members) 1 ≡ n
-  pub none : m .rounds ≡ replicate 3 0
+  pub none : m .rounds ≡ unused (limitsOf m .rounds)
+  pub limits : limitsOf m ≡ l
 
 -- m has no round and never had one, and takes n rounds of the member places `owners`
 pub record Fillable (owners : List ℕ) (n : ℕ) (m : Arrays) : Type 0 where
   pub sound : Sound m
-  pub none : m .rounds ≡ replicate 3 0
+  pub none : m .rounds ≡ unused (limitsOf m .rounds)
   pub few : n ≤ 1024
   pub owner : (j : ℕ) → j < n → 0 < tally (at owners j) (order (membersOf m))
 
@@ -71,6 +74,7 @@ pub record Filled (m : Arrays) (owners scores : List ℕ) (n : ℕ) (r : Arrays)
   pub fresh : at (r .rounds) 1 ≡ n
   pub keys : r .keys ≡ m .keys
   pub members : membersOf r ≡ membersOf m
+  pub limits : limitsOf r ≡ limitsOf m
 
 -- r is well-linked and stands for what m stands for, with its places from 0 on in order
 pub record Repacked (m r : Arrays) : Type 0 where

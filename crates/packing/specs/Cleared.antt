@@ -1,9 +1,16 @@
--- A map's arrays with no place in use.
+-- A map's arrays with no place in use, and with all in them 0.
+use Prim.Native.Nat.{ℕ}
+use mathlib.Core.List.{List, [], _∷_}
 use lib.ListN.{set, replicate}
+use Rattle.links.specs.Stores.{at}
 use Rattle.index.specs.Table.{emptyIndex}
-use Rattle.multimap.specs.Arrays.{Arrays}
+use Rattle.multimap.specs.Arrays.{Arrays, arrays}
 
--- The end cells lead to themselves, no place is in use or ever was, and the index is as it begins.
+-- The counts of a list with no place in use, and its limit.
+abbrev pub unused : ℕ → List ℕ
+unused limit = 0 ∷ 0 ∷ 0 ∷ limit ∷ []
+
+-- The end cells lead to themselves, no place is in use or ever was, and the index is as it begins. The limits stay.
 abbrev pub cleared : Arrays → Arrays
 cleared a =
     record {
@@ -18,7 +25,13 @@ cleared a =
       «next_index» = a .«next_index»;
       «previous_index» = a .«previous_index»;
       index = emptyIndex;
-      members = replicate 3 0;
-      rounds = replicate 3 0;
+      members = unused (at (a .members) 3);
+      rounds = unused (at (a .rounds) 3);
       taken = a .taken;
     }
+
+-- Each array is 0 throughout but for the limits.
+abbrev pub zeros : ℕ → ℕ → Arrays
+zeros keys-limit values-limit =
+    arrays (replicate 256 0) (replicate 256 0) (replicate 257 0) (replicate 257 0) (replicate 1024 0) (replicate 1024 0) (replicate 1025 0)
+    (replicate 1025 0) (replicate 1280 0) (replicate 1280 0) emptyIndex (unused keys-limit) (unused values-limit) 0

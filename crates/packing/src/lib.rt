@@ -22,16 +22,17 @@ ghost use mathlib.Core.Bool.{_||_};
 ghost use lib.Dec.{ltb};
 ghost use lib.ListN.{length};
 ghost use Rattle.steps.specs.Call as C;
-ghost use Rattle.steps.specs.State.{empty, maxMembers, maxRounds};
+ghost use Rattle.steps.specs.State.{limit};
 ghost use Rattle.steps.specs.Told.{Told};
 ghost use Rattle.multimap.specs.Arrays.{Arrays};
 ghost use Rattle.multimap.specs.Lent.{lent, left};
-ghost use Rattle.multimap.specs.Map.{at, stateOf};
+ghost use Rattle.multimap.specs.Making.{Made};
+ghost use Rattle.multimap.specs.Map.{at, limitsOf};
 ghost use Rattle.multimap.specs.WellLinked.{WellLinked, linked};
 ghost use Rattle.packing.specs.Building.{listed, Distinct, MembersCopied, RoundsCopied, Seated, Apart, Fillable, Filled, Repacked};
-ghost use Rattle.packing.specs.Cleared.{cleared};
+ghost use Rattle.packing.specs.Cleared.{cleared, zeros};
 
-// Makes the empty map, whatever the arrays hold.
+// Makes the empty map with these limits, whatever the arrays hold; a refused making leaves it with both limits 0.
 #[rattlefmt::skip]
 #[no_mangle]
 pub extern "C" fn om_new(
@@ -39,24 +40,23 @@ pub extern "C" fn om_new(
     values: &mut Values, key_index: &mut KeyIndex, next_value: &mut ValueLinks, previous_value: &mut ValueLinks,
     next_index: &mut IndexLinks, previous_index: &mut IndexLinks, index: &mut Index,
     members: &mut Counts, rounds: &mut Counts, taken: &mut u32,
+    members_limit: u64, rounds_limit: u64, answer: &mut [u64; 4],
 )
-    ensures { λ _. ⌜ WellLinked (left keys lengths «next_key» «previous_key» values «key_index» «next_value» «previous_value» «next_index» «previous_index» index members rounds taken) × (stateOf (left keys lengths «next_key» «previous_key» values «key_index» «next_value» «previous_value» «next_index» «previous_index» index members rounds taken) ≡ empty) ⌝ }
+    ensures { λ _. ⌜ Made (limit «members_limit» «rounds_limit») (left keys lengths «next_key» «previous_key» values «key_index» «next_value» «previous_value» «next_index» «previous_index» index members rounds taken) (now (answer .exit)) ⌝ }
 {
-    *keys = [0; 256];
-    *lengths = [0; 256];
-    *next_key = [0; 257];
-    *previous_key = [0; 257];
-    *values = [0; 1024];
-    *key_index = [0; 1024];
-    *next_value = [0; 1025];
-    *previous_value = [0; 1025];
-    *next_index = [0; 1280];
-    *previous_index = [0; 1280];
-    *taken = 0;
-    vacate(
+    if multimap::too_high(members_limit, rounds_limit) {
+        reset(
+            keys, lengths, next_key, previous_key, values, key_index, next_value, previous_value,
+            next_index, previous_index, index, members, rounds, taken, 0, 0,
+        );
+        answers::tell(answer, Answer::Refused(15));
+        return;
+    }
+    reset(
         keys, lengths, next_key, previous_key, values, key_index, next_value, previous_value,
-        next_index, previous_index, index, members, rounds, taken,
+        next_index, previous_index, index, members, rounds, taken, members_limit as u16, rounds_limit as u16,
     );
+    answers::tell(answer, Answer::Done);
 }
 
 // Empties the map. T stays.
@@ -98,7 +98,7 @@ pub extern "C" fn om_pack_to(
 {
     let few_keys = is_below(keys_minimum, members);
     let few_values = is_below(values_minimum, rounds);
-    let too_many = is_above(keys_minimum, values_minimum);
+    let too_many = is_above(keys_minimum, values_minimum, members, rounds);
     if few_keys {
         answers::tell(answer, Answer::Refused(4));
         return;
@@ -126,11 +126,48 @@ fn is_below(minimum: u64, counts: &Counts) -> bool
     minimum < held as u64
 }
 
-// Says whether a minimum is above what a map can hold.
-fn is_above(keys_minimum: u64, values_minimum: u64) -> bool
-    ensures { λ r. ⌜ r ≡ (ltb maxMembers «keys_minimum» || ltb maxRounds «values_minimum») ⌝ }
+// Says whether a minimum is above the map's limit.
+fn is_above<'a>(
+    keys_minimum: u64,
+    values_minimum: u64,
+    members: &'a Counts,
+    rounds: &'a Counts,
+) -> bool
+    ensures { λ r. ⌜ r ≡ (ltb (at (now (members .entry)) 3) «keys_minimum» || ltb (at (now (rounds .entry)) 3) «values_minimum») ⌝ }
 {
-    (MEMBERS as u64) < keys_minimum || (ROUNDS as u64) < values_minimum
+    let most_keys = links::get(members, 3);
+    let most_values = links::get(rounds, 3);
+    (most_keys as u64) < keys_minimum || (most_values as u64) < values_minimum
+}
+
+// Leaves the empty map with these limits, whatever the arrays hold.
+#[rattlefmt::skip]
+fn reset(
+    keys: &mut Keys, lengths: &mut Lengths, next_key: &mut KeyLinks, previous_key: &mut KeyLinks,
+    values: &mut Values, key_index: &mut KeyIndex, next_value: &mut ValueLinks, previous_value: &mut ValueLinks,
+    next_index: &mut IndexLinks, previous_index: &mut IndexLinks, index: &mut Index,
+    members: &mut Counts, rounds: &mut Counts, taken: &mut u32,
+    members_limit: u16, rounds_limit: u16,
+)
+    ensures { λ _. ⌜ left keys lengths «next_key» «previous_key» values «key_index» «next_value» «previous_value» «next_index» «previous_index» index members rounds taken ≡ cleared (zeros «members_limit» «rounds_limit») ⌝ }
+{
+    *keys = [0; 256];
+    *lengths = [0; 256];
+    *next_key = [0; 257];
+    *previous_key = [0; 257];
+    *values = [0; 1024];
+    *key_index = [0; 1024];
+    *next_value = [0; 1025];
+    *previous_value = [0; 1025];
+    *next_index = [0; 1280];
+    *previous_index = [0; 1280];
+    *members = [0, 0, 0, members_limit];
+    *rounds = [0, 0, 0, rounds_limit];
+    *taken = 0;
+    vacate(
+        keys, lengths, next_key, previous_key, values, key_index, next_value, previous_value,
+        next_index, previous_index, index, members, rounds, taken,
+    );
 }
 
 // Leaves no place in use: both lists end where they begin, and the index is empty. What stands in the places is left as it is.
@@ -150,8 +187,10 @@ fn vacate(
     links::put(next_value, ROUNDS, ROUNDS);
     links::put(previous_value, ROUNDS, ROUNDS);
     *index = [index::EMPTY; 512];
-    *members = [0; 3];
-    *rounds = [0; 3];
+    let keys_limit = members[3];
+    let values_limit = rounds[3];
+    *members = [0, 0, 0, keys_limit];
+    *rounds = [0, 0, 0, values_limit];
 }
 
 // Copies the map out, and takes it in again from the empty map on: places are taken from 0 on then. T is set apart.
@@ -256,8 +295,8 @@ fn seat(
 )
     ghost { Arrays }
     requires { λ α. ⌜ lent keys lengths «next_key» «previous_key» values «key_index» «next_value» «previous_value» «next_index» «previous_index» index members rounds taken ≡ α ⌝ }
-    requires { λ α. ⌜ Seated (now numbers) 0 α × Apart (now numbers) held ⌝ }
-    ensures { λ _ _. ⌜ Seated (now (numbers .entry)) held (left keys lengths «next_key» «previous_key» values «key_index» «next_value» «previous_value» «next_index» «previous_index» index members rounds taken) ⌝ }
+    requires { λ α. ⌜ Seated (now numbers) (limitsOf α) 0 α × Apart (now numbers) held ⌝ }
+    ensures { λ α _. ⌜ Seated (now (numbers .entry)) (limitsOf α) held (left keys lengths «next_key» «previous_key» values «key_index» «next_value» «previous_value» «next_index» «previous_index» index members rounds taken) ⌝ }
 {
     let mut i: u16 = 0;
     while i < held {

@@ -2,6 +2,7 @@
 use Prim.Native.Nat.{ℕ}
 use mathlib.Core.Path.{_≡_, sym, ap, _∙_, subst}
 use mathlib.Core.List.{List, map}
+use Rattle.steps.specs.State.{Limits}
 use Rattle.steps.specs.Call.{Answer}
 use Rattle.steps.specs.Coded.{coded, decoded}
 use Rattle.steps.specs.Step.{write}
@@ -23,13 +24,13 @@ pub written : {m : Arrays} {out out′ ans : List ℕ} {a : Answer} → Writes m
     → write a out′ ≡ writeOf (stateOf m) out
 written {m} {out} {out′} w e = ap (λ (x : Answer). write x out′) (told (w .ans-is) e) ∙ w .writes
 
-pub restored : {s ans : List ℕ} {a : Answer} {m : Arrays} {nk pk ki : List KeyPlace} {nv pv ni pi : List ValuePlace}
-    → Restores s m ans → a ≡ decoded ans
+pub restored : {l : Limits} {s ans : List ℕ} {a : Answer} {m : Arrays} {nk pk ki : List KeyPlace} {nv pv ni pi : List ValuePlace}
+    → Restores l s m ans → a ≡ decoded ans
     → nk ≡ map keyPlace (m .«next_key») → pk ≡ map keyPlace (m .«previous_key») → ki ≡ map keyPlace (m .«key_index»)
     → nv ≡ map valuePlace (m .«next_value») → pv ≡ map valuePlace (m .«previous_value»)
     → ni ≡ map valuePlace (m .«next_index») → pi ≡ map valuePlace (m .«previous_index»)
-    → Reads s a (arraysOf (recordWith m nk pk ki nv pv ni pi))
-restored {s} {ans} {a} {m} {nk} {pk} {ki} {nv} {pv} {ni} {pi} t e e₁ e₂ e₃ e₄ e₅ e₆ e₇ =
-    subst (λ (x : Answer). Reads s x (arraysOf (recordWith m nk pk ki nv pv ni pi))) (sym (told (t .ans-is) e))
-    (subst (λ (x : Arrays). Reads s (t .answer) x)
+    → Reads l s a (arraysOf (recordWith m nk pk ki nv pv ni pi))
+restored {l} {s} {ans} {a} {m} {nk} {pk} {ki} {nv} {pv} {ni} {pi} t e e₁ e₂ e₃ e₄ e₅ e₆ e₇ =
+    subst (λ (x : Answer). Reads l s x (arraysOf (recordWith m nk pk ki nv pv ni pi))) (sym (told (t .ans-is) e))
+    (subst (λ (x : Arrays). Reads l s (t .answer) x)
     (sym (ap arraysOf (packed m nk pk ki nv pv ni pi e₁ e₂ e₃ e₄ e₅ e₆ e₇) ∙ typed-back m (t .reads .linked .sized))) (t .reads))

@@ -6,6 +6,7 @@ use multimap::ValuePlace;
 use multimap::places;
 use ordered_multimap::Reply;
 ghost use mathlib.Core.Path.{_≡_};
+ghost use Rattle.steps.specs.State.{limit};
 ghost use Rattle.steps.specs.Step.{write};
 ghost use Rattle.multimap.specs.Arrays.{arraysOf};
 ghost use Rattle.multimap.specs.Map.{stateOf};
@@ -34,8 +35,8 @@ pub fn write_image(m: ListOrderedMultimap, out: &mut [u8]) -> Reply
     let next_value = places::value_links(next_value);
     let keys_free = m.keys_free;
     let values_free = m.values_free;
-    let members = [m.keys_len, m.keys_fresh, keys_free.0];
-    let rounds = [m.values_len, m.values_fresh, values_free.0];
+    let members = [m.keys_len, m.keys_fresh, keys_free.0, m.keys_limit];
+    let rounds = [m.values_len, m.values_fresh, values_free.0, m.values_limit];
     let mut numbers = [0u64; 4];
     image::om_write_image(
         &keys,
@@ -51,10 +52,10 @@ pub fn write_image(m: ListOrderedMultimap, out: &mut [u8]) -> Reply
     Reply { map: m, answer }
 }
 
-// Reads an image; a refused reading gives the empty map.
+// Reads an image into these limits; a refused reading gives the map that `new` makes with them.
 #[rattlefmt::skip]
-pub fn read_image(bytes: &[u8]) -> Reply
-    ensures { λ r. ⌜ Reads (now (bytes .entry)) (answerOf (r .answer)) (arraysOf (r .map)) ⌝ }
+pub fn read_image(members_limit: u64, rounds_limit: u64, bytes: &[u8]) -> Reply
+    ensures { λ r. ⌜ Reads (limit «members_limit» «rounds_limit») (now (bytes .entry)) (answerOf (r .answer)) (arraysOf (r .map)) ⌝ }
 {
     let mut keys = [0u64; 256];
     let mut lengths = [0u16; 256];
@@ -67,13 +68,14 @@ pub fn read_image(bytes: &[u8]) -> Reply
     let mut next_index = [0u16; 1280];
     let mut previous_index = [0u16; 1280];
     let mut index = [0u16; 512];
-    let mut members = [0u16; 3];
-    let mut rounds = [0u16; 3];
+    let mut members = [0u16; 4];
+    let mut rounds = [0u16; 4];
     let mut taken = 0u32;
     let mut numbers = [0u64; 4];
     image::om_read_image(
         &mut keys, &mut lengths, &mut next_key, &mut previous_key, &mut values, &mut key_index, &mut next_value, &mut previous_value,
-        &mut next_index, &mut previous_index, &mut index, &mut members, &mut rounds, &mut taken, bytes, &mut numbers,
+        &mut next_index, &mut previous_index, &mut index, &mut members, &mut rounds, &mut taken,
+        members_limit, rounds_limit, bytes, &mut numbers,
     );
     let next_key = places::key_links_typed(next_key);
     let previous_key = places::key_links_typed(previous_key);
@@ -84,8 +86,8 @@ pub fn read_image(bytes: &[u8]) -> Reply
     let previous_index = places::index_links_typed(previous_index);
     let map = ListOrderedMultimap {
         keys, length: lengths, next_key, previous_key, values, key_index, next_value, previous_value, next_index, previous_index, index,
-        keys_len: members[0], keys_fresh: members[1], keys_free: KeyPlace(members[2]),
-        values_len: rounds[0], values_fresh: rounds[1], values_free: ValuePlace(rounds[2]), taken,
+        keys_len: members[0], keys_fresh: members[1], keys_free: KeyPlace(members[2]), keys_limit: members[3],
+        values_len: rounds[0], values_fresh: rounds[1], values_free: ValuePlace(rounds[2]), values_limit: rounds[3], taken,
     };
     let answer = answers::read(numbers);
     Reply { map, answer }
@@ -116,8 +118,8 @@ pub fn well_linked(m: ListOrderedMultimap) -> Checked
     let index = m.index;
     let keys_free = m.keys_free;
     let values_free = m.values_free;
-    let members = [m.keys_len, m.keys_fresh, keys_free.0];
-    let rounds = [m.values_len, m.values_fresh, values_free.0];
+    let members = [m.keys_len, m.keys_fresh, keys_free.0, m.keys_limit];
+    let rounds = [m.values_len, m.values_fresh, values_free.0, m.values_limit];
     let taken = m.taken;
     let yes = well_linked::well_linked(
         &keys, &lengths, &next_key, &previous_key, &values, &key_index, &next_value, &previous_value,

@@ -1,6 +1,6 @@
 -- Every list of calls is what some slices hold: it can be written into slices, and is read again as it was, given room for the answers.
 -- Assumes nothing.
-use mathlib.Core.Path.{_≡_, refl, ap, ap₂, _∙_}
+use mathlib.Core.Path.{_≡_, refl, ap, ap₂, sym, _∙_}
 use mathlib.Core.Bool.{true}
 use mathlib.Core.List.{List, [], _∷_, _++_}
 use Prim.Native.Nat.{ℕ, _*_, _-_, _≤_}
@@ -8,8 +8,9 @@ use native.Mathlib.Omega.{arith}
 use lib.ListN.{length, take, drop, length-append}
 use lib.Seq.{take-at, drop-at}
 use borrow.Author.Tests.{le-leb}
-use Rattle.steps.specs.State.{empty}
-use Rattle.steps.specs.Step.{after}
+use Rattle.steps.specs.State.{State, Limits, empty}
+use Rattle.steps.specs.Step.{after, makeOf}
+use Rattle.steps.proofs.Limits.{makes-new}
 use Rattle.multimap.specs.Map.{stateOf}
 use Rattle.steps.specs.Call as C
 use Rattle.steps.proofs.Views.{view-back}
@@ -71,8 +72,12 @@ decode-encode (c ∷ cs) space h =
     ∙ rw (first (view c .out) (lentOuts cs), first (view c .out2) (lentOuts2 cs), first (view c .marks) (allMarks cs), behind (view c .out) (lentOuts cs), behind (view c .out2) (lentOuts2 cs), behind (view c .marks) (allMarks cs))
     (ap₂ (λ (x : Call) (xs : List Call). x ∷ xs) (view-back c) (decode-encode cs (space - 4) (omega arith)))
 
--- so replay makes all calls of the list, and its claim is one about the list itself
-pub all-made : (cs : List Call) (ans outs′ outs2′ ans′ : List ℕ) (m′ : Arrays) (n : ℕ) → 4 * length cs ≤ length ans
-    → Played (numbers cs) (lentOuts cs) (lentOuts2 cs) (allMarks cs) ans outs′ outs2′ ans′ m′ n → (n ≡ length cs) × (stateOf m′ ≡ after cs empty)
-all-made cs ans outs′ outs2′ ans′ m′ n h p =
-    (p .number ∙ ap length (decode-encode cs (length ans) h), p .demand-3 .obeys .state ∙ ap (λ (l : List Call). after l empty) (decode-encode cs (length ans) h))
+-- so replay makes all calls of the list, on the new map with the limits l, and its claim is one about the list itself
+pub all-made : (l : Limits) (cs : List Call) (ans outs′ outs2′ ans′ : List ℕ) (m′ : Arrays) (n : ℕ) → 4 * length cs ≤ length ans
+    → Played l (numbers cs) (lentOuts cs) (lentOuts2 cs) (allMarks cs) ans outs′ outs2′ ans′ m′ n → (n ≡ length cs) × (stateOf m′ ≡ after cs (makeOf l .1))
+all-made l cs ans outs′ outs2′ ans′ m′ n h p = (
+  p .number ∙ ap length (decode-encode cs (length ans) h),
+  p .demand-3 .obeys .state
+      ∙ ap₂ (λ (x : List Call) (s : State). after x (empty (s .limits))) (decode-encode cs (length ans) h) (p .start-new)
+      ∙ ap (λ (s : State). after cs s) (sym (makes-new l .state)),
+)

@@ -8,10 +8,12 @@ use lib.Dec.{eqb, leb, ltb}
 use lib.ListN.{length, take, drop, getD, set, length-append, length-drop}
 use lib.Seq.{drop-drop}
 use borrow.Author.Tests.{ltb-true, leb-true, eqb-true}
-use Rattle.steps.specs.State.{empty}
+use Rattle.steps.specs.State.{State, Limits, empty}
 use Rattle.steps.specs.Call as C
 use Rattle.steps.specs.Call.{Outcome}
-use Rattle.steps.specs.Step.{over, outcomes}
+use Rattle.steps.specs.Step.{over, outcomes, makeOf}
+use Rattle.steps.specs.Proper.{New}
+use Rattle.steps.proofs.Limits.{makes-new}
 use Rattle.steps.specs.Trace.{Kind, Trace, stop, call}
 use Rattle.steps.specs.Coded.{coded}
 use Rattle.steps.proofs.Coded.{coded-length}
@@ -133,19 +135,21 @@ module _ {Map : Type 0} (M : Kind Map) where
         number = rw (decode-call op k v n n2 n3 calls outs outs2 marks (length ans) e, ← length-drop 4 ans) (ap suc (r .number));
       }
 
--- from the empty linked map
-pub played : (calls outs outs2 marks ans outs′ outs2′ ans′ : List ℕ) (m m′ : Arrays) (n : ℕ) → Ran linked calls outs outs2 marks ans m outs′ outs2′ ans′ m′ n
-    → WellLinked m → stateOf m ≡ empty → Played calls outs outs2 marks ans outs′ outs2′ ans′ m′ n
-played calls outs outs2 marks ans outs′ outs2′ ans′ m m′ n r l e =
+-- from the new linked map with the limits l
+pub played : (l : Limits) (calls outs outs2 marks ans outs′ outs2′ ans′ : List ℕ) (m m′ : Arrays) (n : ℕ) → Ran linked calls outs outs2 marks ans m outs′ outs2′ ans′ m′ n
+    → WellLinked m → stateOf m ≡ makeOf l .1 → Played l calls outs outs2 marks ans outs′ outs2′ ans′ m′ n
+played l calls outs outs2 marks ans outs′ outs2′ ans′ m m′ n r h e =
     let cs = decode calls outs outs2 marks (length ans) in
-    let same : r .outcomes ≡ outcomes cs empty = demand-3 linked (λ m. m) (λ m h. h) (r .trace) l e .obeys .outcomes in
-    let t : Trace linked cs m (outcomes cs empty) m′ = subst (λ (os : List Outcome). Trace linked cs m os m′) same (r .trace) in
+    let new : New (stateOf m) = subst (λ (s : State). New s) (sym e) (makes-new l) in
+    let from : empty (stateOf m .limits) ≡ makeOf l .1 = sym (new .state) ∙ e in
+    let same : r .outcomes ≡ outcomes cs (makeOf l .1) = demand-3 linked (λ m. m) (λ m h. h) (r .trace) h new .obeys .outcomes ∙ ap (λ (s : State). outcomes cs s) from in
+    let t : Trace linked cs m (outcomes cs (makeOf l .1)) m′ = subst (λ (os : List Outcome). Trace linked cs m os m′) same (r .trace) in
     record {
       start = m;
-      start-linked = l;
-      start-empty = e;
+      start-linked = h;
+      start-new = e;
       trace = t;
-      demand-3 = demand-3 linked (λ m. m) (λ m h. h) t l e;
+      demand-3 = demand-3 linked (λ m. m) (λ m h. h) t h new;
       outs-are = r .outs-are ∙ ap (λ (os : List Outcome). over (outsOf os) outs) same;
       outs2-are = r .outs2-are ∙ ap (λ (os : List Outcome). over (outs2Of os) outs2) same;
       ans-are = r .ans-are ∙ ap (λ (os : List Outcome). over (answersOf os) ans) same;

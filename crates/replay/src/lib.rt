@@ -1,4 +1,4 @@
-// Runs the calls of a list held in slices, one after the other, on one map in arrays of its own that starts empty.
+// Runs the calls of a list held in slices, one after the other, on one map in arrays of its own that starts new.
 use multimap::Counts;
 use multimap::Index;
 use multimap::IndexLinks;
@@ -12,6 +12,7 @@ ghost use mathlib.Core.Path.{_≡_};
 ghost use mathlib.Core.Bool.{_&&_, _||_};
 ghost use Prim.Native.Nat.{_+_, _≤_};
 ghost use lib.ListN.{length};
+ghost use Rattle.steps.specs.State.{limit};
 ghost use Rattle.steps.specs.Call.{callOf, lends as lendsOf};
 ghost use Rattle.steps.specs.Told.{Told};
 ghost use Rattle.multimap.specs.Arrays.{Arrays};
@@ -21,15 +22,15 @@ ghost use Rattle.replay.specs.Tape.{Ran};
 ghost use Rattle.replay.specs.Place.{headAt, knownHead, fitsHead, Ready, stopped, Small, Past, Within, Advanced};
 ghost use Rattle.replay.specs.Played.{Played};
 
-// Runs the calls that the slices hold, on a map that starts empty. The out slices, and after each call its answer, are written to `outs`, `outs2` and
-// `answers`. A list that is cut off or holds what is no call is run up to there. The answer is how many calls were run.
+// Runs the calls that the slices hold, on the map that `om_new` makes with these limits. The out slices, and after each call its answer, are written
+// to `outs`, `outs2` and `answers`. A list that is cut off or holds what is no call is run up to there. The answer is how many calls were run.
 #[no_mangle]
 #[rattlefmt::skip]
 pub extern "C" fn replay(
-    calls: &[u64], outs: &mut [u64], outs2: &mut [u64], marks: &[u8], answers: &mut [u64],
+    members_limit: u64, rounds_limit: u64, calls: &[u64], outs: &mut [u64], outs2: &mut [u64], marks: &[u8], answers: &mut [u64],
 ) -> u64
-    ensures { λ r. ⌜ ((m : Arrays) × Played (now (calls .entry)) (now (outs .entry)) (now (outs2 .entry)) (now (marks .entry)) (now (answers .entry))
-        (now (outs .exit)) (now (outs2 .exit)) (now (answers .exit)) m r) ⌝ }
+    ensures { λ r. ⌜ ((m : Arrays) × Played (limit «members_limit» «rounds_limit») (now (calls .entry)) (now (outs .entry)) (now (outs2 .entry))
+        (now (marks .entry)) (now (answers .entry)) (now (outs .exit)) (now (outs2 .exit)) (now (answers .exit)) m r) ⌝ }
 {
     let mut keys = [0u64; 256];
     let mut lengths = [0u16; 256];
@@ -42,12 +43,14 @@ pub extern "C" fn replay(
     let mut next_index = [0u16; 1280];
     let mut previous_index = [0u16; 1280];
     let mut index = [0u16; 512];
-    let mut members = [0u16; 3];
-    let mut rounds = [0u16; 3];
+    let mut members = [0u16; 4];
+    let mut rounds = [0u16; 4];
     let mut taken = 0u32;
+    let mut made = [0u64; 4];
     packing::om_new(
         &mut keys, &mut lengths, &mut next_key, &mut previous_key, &mut values, &mut key_index, &mut next_value,
         &mut previous_value, &mut next_index, &mut previous_index, &mut index, &mut members, &mut rounds, &mut taken,
+        members_limit, rounds_limit, &mut made,
     );
     run(
         &mut keys, &mut lengths, &mut next_key, &mut previous_key, &mut values, &mut key_index, &mut next_value,

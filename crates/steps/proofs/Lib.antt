@@ -5,6 +5,7 @@ pub mod Keeps
 pub mod Proper
 pub mod Sums
 pub mod Taken
+pub mod Limits
 pub mod Obeys
 pub mod Doing
 pub mod Coded

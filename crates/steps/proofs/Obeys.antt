@@ -4,15 +4,16 @@ use mathlib.Core.Logic.{_↔_}
 use mathlib.Core.List.{List}
 use native.Mathlib.Omega.{arith}
 use lib.ListN.{length}
-use Rattle.steps.specs.State.{State, empty, maxRounds}
+use Rattle.steps.specs.State.{State, empty}
 use Rattle.steps.specs.Call.{Call, Outcome, refused}
 use Rattle.steps.specs.Step.{step, after, outcomes}
 use Rattle.steps.specs.Accounting.{flowOf}
-use Rattle.steps.specs.Proper.{Proper}
-use Rattle.steps.specs.Trace.{Kind, Does, Trace, stop, call, Along, flowAlong, AppendExact, RefusedSame, PackedAfter, Obeys}
+use Rattle.steps.specs.Proper.{Proper, New}
+use Rattle.steps.specs.Trace.{Kind, Does, Trace, stop, call, Along, flowAlong, AppendExact, RefusedSame, PackedAfter, LimitsKept, Obeys}
 use Rattle.steps.proofs.Proper.{proper-empty, step-proper, after-proper}
 use Rattle.steps.proofs.Taken.{taken-counts}
 use Rattle.steps.proofs.Sums.{append-refused, balanced}
+use Rattle.steps.proofs.Limits.{limits-kept}
 
 module _ {Map : Type 0} (M : Kind Map) where
   -- from any state: the outcomes, the state, and the flow of rounds are those of the steps
@@ -42,23 +43,26 @@ module _ {Map : Type 0} (M : Kind Map) where
 
   append-exact : (c : Call) (m : Map) (o : Outcome) (m′ : Map) → Proper (M .abs m) → Does M c m o m′ → AppendExact M c m o m′
   append-exact c m o m′ p d k v e =
-      subst (λ (x : Outcome). (x .answer ≡ refused 1) ↔ (length (M .abs m .pairs) ≡ maxRounds))
+      subst (λ (x : Outcome). (x .answer ≡ refused 1) ↔ (length (M .abs m .pairs) ≡ M .abs m .limits .rounds))
       (sym (d .outcome ∙ ap (λ (x : Call). step x (M .abs m) .0) e))
       (append-refused k v (M .abs m) p)
 
-  pub obeys : {cs : List Call} {m m′ : Map} {os : List Outcome} (t : Trace M cs m os m′) → M .Linked m → M .abs m ≡ empty → Obeys M t
-  obeys {cs} {m} {m′} {os} t l e =
-      let r = follow t empty l e in
-      let p : Proper (M .abs m) = rw e proper-empty in
+  pub obeys : {cs : List Call} {m m′ : Map} {os : List Outcome} (t : Trace M cs m os m′) → M .Linked m → New (M .abs m) → Obeys M t
+  obeys {cs} {m} {m′} {os} t l new =
+      let s : State = empty (M .abs m .limits) in
+      let r = follow t s l (new .state) in
+      let first : Proper s = proper-empty (M .abs m .limits) (new .allowed) in
+      let p : Proper (M .abs m) = subst Proper (sym (new .state)) first in
       record {
         outcomes = r .0;
         state = r .1;
         linked = r .2;
         linked-all = along (λ c m o m′. M .Linked m′) (λ c m o m′ p d. d .linked) t l p;
-        balanced = rw (r .1, r .3) (omega (arith, balanced cs empty));
-        counted = rw (r .1, r .3) (taken-counts cs);
+        balanced = rw (r .1, r .3) (omega (arith, balanced cs s));
+        counted = rw (r .1, r .3) (taken-counts (M .abs m .limits) (new .allowed) cs);
         appends = along (AppendExact M) append-exact t l p;
-        proper = rw (r .1) (after-proper cs empty proper-empty);
+        proper = rw (r .1) (after-proper cs s first);
         same = along (RefusedSame M) (λ c m o m′ p d. d .same) t l p;
         packed = along (PackedAfter M) (λ c m o m′ p d. d .packed) t l p;
+        limits = along (LimitsKept M) (λ c m o m′ p d. ap (λ (s : State). s .limits) (d .state) ∙ limits-kept c (M .abs m)) t l p;
       }

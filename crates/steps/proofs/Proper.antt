@@ -10,11 +10,11 @@ use lib.ListN.{length, length-append}
 use borrow.Author.Tests.{leb-false}
 use Rattle.steps.specs.Lists.{last?}
 use Rattle.steps.specs.State as St
-use Rattle.steps.specs.State.{State, Pair, empty, of, has, others, kept, leave, absent, full, crowded, add, replace, remove-member, remove-pair, relist, keep, maxRounds, maxMembers}
+use Rattle.steps.specs.State.{State, Limits, Pair, empty, of, has, others, kept, leave, absent, full, crowded, add, replace, remove-member, remove-pair, relist, keep}
 use Rattle.steps.specs.Call as C
 use Rattle.steps.specs.Call.{Call}
 use Rattle.steps.specs.Step.{Check, checks, refusal, pop, act, settle, step, after}
-use Rattle.steps.specs.Proper.{Proper}
+use Rattle.steps.specs.Proper.{Allowed, Proper}
 use Rattle.steps.proofs.Filter.{length-split, length-filter, any-one, any-append}
 use Rattle.steps.proofs.Keeps.{present-has, has-others, once-add, once-remove-member, once-off, once-keep, or-false, eqb-refl}
 
@@ -32,10 +32,10 @@ passed (c ∷ cs) e = go (c .0) refl (λ h. passed cs h) e
     go false p ih e = (p, ih e)
 
 -- a member's place in K costs one, where it is new
-joined : (k : ℕ) (s : State) → length (s .members) ≤ maxMembers → (absent k s && crowded s) ≡ false → length (cond (St.present k s) (s .members) (s .members ++ (k ∷ []))) ≤ maxMembers
+joined : (k : ℕ) (s : State) → length (s .members) ≤ s .limits .members → (absent k s && crowded s) ≡ false → length (cond (St.present k s) (s .members) (s .members ++ (k ∷ []))) ≤ s .limits .members
 joined k s m h = go (St.present k s) h
   where
-    go : (b : Bool) → (not b && crowded s) ≡ false → length (cond b (s .members) (s .members ++ (k ∷ []))) ≤ maxMembers
+    go : (b : Bool) → (not b && crowded s) ≡ false → length (cond b (s .members) (s .members ++ (k ∷ []))) ≤ s .limits .members
     go true h = m
     go false h = rw length-append (omega (arith, leb-false))
 
@@ -46,6 +46,7 @@ proper-add k v s p f c =
       rounds = rw length-append (omega (arith, leb-false));
       members = joined k s (p .members) c;
       taken = omega arith;
+      allowed = p .allowed;
     }
 
 proper-replace : (k v : ℕ) (s : State) → Proper s → (absent k s && full s) ≡ false → (absent k s && crowded s) ≡ false → Proper (replace k v s)
@@ -55,9 +56,10 @@ proper-replace k v s p f c =
       rounds = rw length-append (go (St.present k s) refl f);
       members = joined k s (p .members) c;
       taken = omega arith;
+      allowed = p .allowed;
     }
   where
-    go : (b : Bool) → St.present k s ≡ b → (not b && full s) ≡ false → length (others k (s .pairs)) + 1 ≤ maxRounds
+    go : (b : Bool) → St.present k s ≡ b → (not b && full s) ≡ false → length (others k (s .pairs)) + 1 ≤ s .limits .rounds
     go true e f = omega (arith, p .rounds, length-split (of k) (s .pairs), any-one (of k) (s .pairs) (sym (present-has s p k) ∙ e))
     go false e f = omega (arith, length-split (of k) (s .pairs), leb-false)
 
@@ -68,6 +70,7 @@ proper-remove-member k s p =
       rounds = omega (arith, p .rounds, length-filter (λ q. not (of k q)) (s .pairs));
       members = omega (arith, p .members, length-filter (λ j. not (eqb k j)) (s .members));
       taken = p .taken;
+      allowed = p .allowed;
     }
 
 -- ps is p and rest, in some order
@@ -84,9 +87,10 @@ proper-off p rest s q h =
       rounds = omega (arith, q .rounds, h .lengths);
       members = go (has (p .key) rest);
       taken = q .taken;
+      allowed = q .allowed;
     }
   where
-    go : (b : Bool) → length (cond b (s .members) (leave (p .key) (s .members))) ≤ maxMembers
+    go : (b : Bool) → length (cond b (s .members) (leave (p .key) (s .members))) ≤ s .limits .members
     go true = q .members
     go false = omega (arith, q .members, length-filter (λ j. not (eqb (p .key) j)) (s .members))
 
@@ -159,13 +163,14 @@ proper-keep ms s p =
       rounds = omega (arith, p .rounds, length-kept ms (s .pairs));
       members = omega (arith, p .members, length-filter (λ k. has k (kept ms (s .pairs))) (s .members));
       taken = p .taken;
+      allowed = p .allowed;
     }
 
-pub proper-empty : Proper empty
-proper-empty = record { once = λ k. refl; rounds = omega arith; members = omega arith; taken = omega arith }
+pub proper-empty : (l : Limits) → Allowed l → Proper (empty l)
+proper-empty l a = record { once = λ k. refl; rounds = omega arith; members = omega arith; taken = omega arith; allowed = a }
 
 proper-clear : (s : State) → Proper s → Proper (relist [] [] s)
-proper-clear s p = record { once = λ k. refl; rounds = omega arith; members = omega arith; taken = p .taken }
+proper-clear s p = record { once = λ k. refl; rounds = omega arith; members = omega arith; taken = p .taken; allowed = p .allowed }
 
 -- an absent member's condition is the condition; a present one's is none
 new : (k : ℕ) (s : State) (b : Bool) → St.present k s ≡ false → (absent k s && b) ≡ false → b ≡ false

@@ -10,12 +10,12 @@ use lib.Dec.{eqb}
 use lib.ListN.{length, getD, length-append, length-map}
 use borrow.Author.Tests.{leb-false, leb-true, eqb-true, not-false}
 use Rattle.steps.specs.Lists.{filter, all, last?}
-use Rattle.steps.specs.State.{State, Pair, empty, of, others, kept, rounds, absent, full, crowded, maxRounds}
+use Rattle.steps.specs.State.{State, Limits, Pair, empty, of, others, kept, rounds, absent, full, crowded}
 use Rattle.steps.specs.Call as C
 use Rattle.steps.specs.Call.{Call, Outcome, refused}
 use Rattle.steps.specs.Step.{checks, refusal, first, pop, act, settle, step, outcomes, after}
 use Rattle.steps.specs.Accounting.{times, roundsIn, Flow, moved, moves, flowOf}
-use Rattle.steps.specs.Proper.{Proper}
+use Rattle.steps.specs.Proper.{Allowed, Proper}
 use Rattle.steps.proofs.Filter.{length-split}
 use Rattle.steps.proofs.Checks.{accepting}
 use Rattle.steps.proofs.Proper.{Pass, passed, End, nothing, pair, front, back, proper-empty, after-proper}
@@ -98,15 +98,16 @@ balanced [] s = omega arith
 balanced (c ∷ cs) s = omega (arith, step-balanced c s, balanced cs (step c s .1))
 
 -- from the empty state on: accepted = held + handed out + dropped
-pub rounds-balanced : (cs : List Call) → flowOf cs empty .accepted ≡ length (after cs empty .pairs) + flowOf cs empty .handed + flowOf cs empty .dropped
-rounds-balanced cs = omega (arith, balanced cs empty)
+pub rounds-balanced : (l : Limits) (cs : List Call)
+    → flowOf cs (empty l) .accepted ≡ length (after cs (empty l) .pairs) + flowOf cs (empty l) .handed + flowOf cs (empty l) .dropped
+rounds-balanced l cs = omega (arith, balanced cs (empty l))
 
--- an append is refused by 1 exactly when 1,024 rounds are held
-pub append-refused : (k v : ℕ) (s : State) → Proper s → (step (C.append k v) s .0 .answer ≡ refused 1) ↔ (length (s .pairs) ≡ maxRounds)
+-- an append is refused by 1 exactly when the limit of rounds is held
+pub append-refused : (k v : ℕ) (s : State) → Proper s → (step (C.append k v) s .0 .answer ≡ refused 1) ↔ (length (s .pairs) ≡ s .limits .rounds)
 unfolding step checks act
 append-refused k v s p = go (full s) (absent k s && crowded s) refl
   where
-    go : (b c : Bool) → full s ≡ b → (settle (cond b (some 1) (cond c (some 2) none)) (C.append k v) s .0 .answer ≡ refused 1) ↔ (length (s .pairs) ≡ maxRounds)
+    go : (b c : Bool) → full s ≡ b → (settle (cond b (some 1) (cond c (some 2) none)) (C.append k v) s .0 .answer ≡ refused 1) ↔ (length (s .pairs) ≡ s .limits .rounds)
     go true c e = (λ h. omega (arith, leb-true, p .rounds), λ h. refl)
     go false true e = (λ h. absurd (let z : _≡_ {A = ℕ} 0 1 = cc in omega arith), λ h. absurd (omega (arith, leb-false)))
     go false false e = (λ h. absurd (let z : _≡_ {A = ℕ} 0 1 = cc in omega arith), λ h. absurd (omega (arith, leb-false)))
@@ -119,8 +120,8 @@ outcome-at [] c rest s d = refl
 outcome-at (b ∷ bs) c rest s d = outcome-at bs c rest (step b s .1) d
 
 -- the same of every append in a list
-pub appends-refused : (before rest : List Call) (k v : ℕ) (d : Outcome)
-    → (getD (outcomes (before ++ C.append k v ∷ rest) empty) (length before) d .answer ≡ refused 1) ↔ (length (after before empty .pairs) ≡ maxRounds)
-appends-refused before rest k v d =
-    rw (outcome-at before (C.append k v) rest empty d)
-    (append-refused k v (after before empty) (after-proper before empty proper-empty))
+pub appends-refused : (l : Limits) → Allowed l → (before rest : List Call) (k v : ℕ) (d : Outcome)
+    → (getD (outcomes (before ++ C.append k v ∷ rest) (empty l)) (length before) d .answer ≡ refused 1) ↔ (length (after before (empty l) .pairs) ≡ after before (empty l) .limits .rounds)
+appends-refused l a before rest k v d =
+    rw (outcome-at before (C.append k v) rest (empty l) d)
+    (append-refused k v (after before (empty l)) (after-proper before (empty l) (proper-empty l a)))

@@ -5,12 +5,12 @@ use mathlib.Core.Option.{Option, none, some}
 use Prim.Native.Nat.{ℕ, _+_, _≤_, min}
 use native.Mathlib.Omega.{arith}
 use Rattle.steps.specs.Lists.{last?}
-use Rattle.steps.specs.State.{State, Pair, empty, maxTaken}
+use Rattle.steps.specs.State.{State, Limits, Pair, empty, maxTaken}
 use Rattle.steps.specs.Call.{Call}
 use Rattle.steps.specs.Call as C
 use Rattle.steps.specs.Step.{checks, refusal, pop, act, settle, step, after}
 use Rattle.steps.specs.Accounting.{moved, moves, flowOf}
-use Rattle.steps.specs.Proper.{Proper}
+use Rattle.steps.specs.Proper.{Allowed, Proper}
 use Rattle.steps.proofs.Proper.{step-proper, proper-empty}
 use Rattle.steps.proofs.Checks.{accepting}
 
@@ -60,5 +60,5 @@ counts [] s p = omega (arith, p .taken)
 counts (c ∷ cs) s p = omega (arith, p .taken, step-taken c s (p .taken), counts cs (step c s .1) (step-proper c s p))
 
 -- from the empty state on: T is the accepted rounds, or its ceiling
-pub taken-counts : (cs : List Call) → after cs empty .taken ≡ min (flowOf cs empty .accepted) maxTaken
-taken-counts cs = omega (arith, counts cs empty proper-empty)
+pub taken-counts : (l : Limits) → Allowed l → (cs : List Call) → after cs (empty l) .taken ≡ min (flowOf cs (empty l) .accepted) maxTaken
+taken-counts l a cs = omega (arith, counts cs (empty l) (proper-empty l a))

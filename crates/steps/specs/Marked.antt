@@ -5,7 +5,7 @@ use Prim.Native.Nat.{ℕ}
 use lib.Dec.{eqb}
 use lib.ListN.{length}
 use Rattle.steps.specs.Lists.{any}
-use Rattle.steps.specs.State.{State, Pair}
+use Rattle.steps.specs.State.{State, Pair, Limits, highest}
 use Rattle.steps.specs.Call.{Call, Outcome, refused, none, count, present, popped, append, insert-all, remove-all, pop-front, pop-back, retain, pack-to}
 use Rattle.steps.specs.Step.{step, say, write}
 
@@ -19,8 +19,9 @@ abbrev pub firsts : List ℕ → List Pair → List ℕ
 firsts met [] = met
 firsts met (p ∷ ps) = firsts (cond (any (eqb (p .key)) met) met (met ++ (p .key ∷ []))) ps
 
-abbrev pub start : List Pair → State
-start ps = record { pairs = ps; members = firsts [] ps; taken = length ps }
+-- the state of these pairs on a map with the limits l
+abbrev pub start : Limits → List Pair → State
+start l ps = record { pairs = ps; members = firsts [] ps; taken = length ps; limits = l }
 
 -- a case: P; the call; its outcome; P and K afterwards
 pub record Row : Type 0 where
@@ -55,7 +56,7 @@ abbrev pub Seen : Type 0
 Seen = Outcome × List Pair × List ℕ
 
 abbrev pub given : Row → Seen
-given r = let d : Outcome × State = step (r .call) (start (r .before)) in (d .0, d .1 .pairs, d .1 .members)
+given r = let d : Outcome × State = step (r .call) (start highest (r .before)) in (d .0, d .1 .pairs, d .1 .members)
 
 abbrev pub wanted : Row → Seen
 wanted r = (r .outcome, r .pairs, r .members)

@@ -11,6 +11,14 @@ pub record Pair : Type 0 where
   pub key : ℕ
   pub value : ℕ
 
+-- The limits of a map (document 02, No. 1): as many members and rounds as its club pays for.
+pub record Limits : Type 0 where
+  pub members : ℕ
+  pub rounds : ℕ
+
+abbrev pub limit : ℕ → ℕ → Limits
+limit members rounds = record { members = members; rounds = rounds }
+
 pub record State : Type 0 where
   -- P of document 01: the pairs in global order
   pub pairs : List Pair
@@ -18,11 +26,12 @@ pub record State : Type 0 where
   pub members : List ℕ
   -- T: the rounds ever taken in
   pub taken : ℕ
+  pub limits : Limits
 
-abbrev pub empty : State
-empty = record { pairs = []; members = []; taken = 0 }
+abbrev pub empty : Limits → State
+empty l = record { pairs = []; members = []; taken = 0; limits = l }
 
--- The limits of a map, and the ceiling of T.
+-- The highest limits that a map may have, and the ceiling of T.
 abbrev pub maxRounds : ℕ
 maxRounds = 1024
 
@@ -31,6 +40,9 @@ maxMembers = 256
 
 abbrev pub maxTaken : ℕ
 maxTaken = 4294967295
+
+abbrev pub highest : Limits
+highest = limit maxMembers maxRounds
 
 -- Is this a pair of k?
 abbrev pub of : ℕ → Pair → Bool
@@ -60,13 +72,13 @@ present k s = any (eqb k) (s .members)
 abbrev pub absent : ℕ → State → Bool
 absent k s = not (present k s)
 
--- As many rounds are held as a map has.
+-- As many rounds are held as the map's limit is.
 abbrev pub full : State → Bool
-full s = leb maxRounds (length (s .pairs))
+full s = leb (s .limits .rounds) (length (s .pairs))
 
--- As many members are held as a map has.
+-- As many members are held as the map's limit is.
 abbrev pub crowded : State → Bool
-crowded s = leb maxMembers (length (s .members))
+crowded s = leb (s .limits .members) (length (s .members))
 
 -- k leaves K.
 abbrev pub leave : ℕ → List ℕ → List ℕ
@@ -74,7 +86,7 @@ leave k ks = filter (λ j. not (eqb k j)) ks
 
 -- The same state with other pairs and members: what a step that adds no round changes.
 abbrev pub relist : List Pair → List ℕ → State → State
-relist ps ks s = record { pairs = ps; members = ks; taken = s .taken }
+relist ps ks s = record { pairs = ps; members = ks; taken = s .taken; limits = s .limits }
 
 -- Adding (k, v): the pair goes to the back of P, a new k to the back of K, and T counts it up to its ceiling.
 abbrev pub add : ℕ → ℕ → State → State
@@ -83,6 +95,7 @@ add k v s =
       pairs = s .pairs ++ (record { key = k; value = v } ∷ []);
       members = cond (present k s) (s .members) (s .members ++ (k ∷ []));
       taken = min (s .taken + 1) maxTaken;
+      limits = s .limits;
     }
 
 -- k's old pairs leave P and (k, v) is added; a present k keeps its place in K.

@@ -8,7 +8,7 @@ use lib.Dec.{eqb, ltb}
 use lib.ListN.{length, drop}
 use Rattle.steps.specs.Lists.{all, last?}
 use Rattle.steps.specs.State as St
-use Rattle.steps.specs.State.{State, Pair, full, crowded, absent, rounds, add, replace, remove-member, remove-pair, relist, keep, kept, has, maxRounds, maxMembers}
+use Rattle.steps.specs.State.{State, Pair, full, crowded, absent, rounds, add, replace, remove-member, remove-pair, relist, keep, kept, has, Limits, limit, empty, maxRounds, maxMembers}
 use Rattle.steps.specs.Call.{Call, lend, lent, Answer, Outcome, refused, none, done, round, count, present, popped, occupied, vacant}
 use Rattle.steps.specs.Call as C
 
@@ -45,7 +45,7 @@ checks C.pop-back s = []
 checks (C.retain marks) s =
     (not (eqb (length marks) (length (s .pairs))), 7) ∷ (not (all (λ m. eqb 0 m || eqb 1 m) marks), 8) ∷ []
 checks (C.pack-to m n) s =
-    (ltb m (length (s .members)), 4) ∷ (ltb n (length (s .pairs)), 5) ∷ (ltb maxMembers m || ltb maxRounds n, 6) ∷ []
+    (ltb m (length (s .members)), 4) ∷ (ltb n (length (s .pairs)), 5) ∷ (ltb (s .limits .members) m || ltb (s .limits .rounds) n, 6) ∷ []
 checks C.clear s = []
 checks (C.get k) s = []
 checks (C.get-all k out) s = (short out (rounds k (s .pairs)), 3) ∷ []
@@ -139,3 +139,21 @@ outcomes (c ∷ cs) s = step c s .0 ∷ outcomes cs (step c s .1)
 unfoldable pub after : List Call → State → State
 after [] s = s
 after (c ∷ cs) s = after cs (step c s .1)
+
+-- ---- a new map (document 02, No. 1)
+
+-- a map may not have these limits
+abbrev pub tooHigh : Limits → Bool
+tooHigh l = ltb maxMembers (l .members) || ltb maxRounds (l .rounds)
+
+-- the row of the table for making a map with these limits
+abbrev pub making : Limits → List Check
+making l = (tooHigh l, 15) ∷ []
+
+-- a refused making gives the empty map with both limits 0; any other with the limits given
+abbrev pub made : Option ℕ → Limits → Answer × State
+made (some n) l = (refused n, empty (limit 0 0))
+made Opt.none l = (done, empty l)
+
+unfoldable pub makeOf : Limits → Answer × State
+makeOf l = made (refusal (making l)) l

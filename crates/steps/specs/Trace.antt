@@ -5,7 +5,7 @@ use mathlib.Core.Bool.{true, false}
 use mathlib.Core.List.{List, [], _∷_}
 use Prim.Native.Nat.{ℕ, _+_, min}
 use lib.ListN.{length}
-use Rattle.steps.specs.State.{State, empty, maxRounds, maxTaken}
+use Rattle.steps.specs.State.{State, empty, maxTaken}
 use Rattle.steps.specs.Call.{Call, Outcome, refused, append, pack-to}
 use Rattle.steps.specs.Step as S
 use Rattle.steps.specs.Step.{step, after}
@@ -43,9 +43,9 @@ module _ {Map : Type 0} (M : Kind Map) where
   flowAlong stop = record { accepted = 0; handed = 0; dropped = 0 }
   flowAlong (call {c} {m} {o} d t) = plus (moves c (M .abs m) o) (flowAlong t)
 
-  -- an append is refused by 1 exactly when 1,024 rounds are held just before it
+  -- an append is refused by 1 exactly when the club's limit of rounds is held just before it
   abbrev pub AppendExact : Call → Map → Outcome → Map → Type 0
-  AppendExact c m o m′ = (k v : ℕ) → c ≡ append k v → (o .answer ≡ refused 1) ↔ (length (M .abs m .pairs) ≡ maxRounds)
+  AppendExact c m o m′ = (k v : ℕ) → c ≡ append k v → (o .answer ≡ refused 1) ↔ (length (M .abs m .pairs) ≡ M .abs m .limits .rounds)
 
   -- a refused call gives back its very map
   abbrev pub RefusedSame : Call → Map → Outcome → Map → Type 0
@@ -55,11 +55,15 @@ module _ {Map : Type 0} (M : Kind Map) where
   abbrev pub PackedAfter : Call → Map → Outcome → Map → Type 0
   PackedAfter c m o m′ = (a b : ℕ) → c ≡ pack-to a b → isRefused (o .answer) ≡ false → M .Packed m′
 
+  -- the limits of the map are kept
+  abbrev pub LimitsKept : Call → Map → Outcome → Map → Type 0
+  LimitsKept c m o m′ = M .abs m′ .limits ≡ M .abs m .limits
+
   -- the claim about a list of calls on an empty map, as a whole
   pub record Obeys {cs : List Call} {m m′ : Map} {os : List Outcome} (t : Trace cs m os m′) : Type 0 where
-    -- the outcomes, and P, K and T, are those of the steps, which start from their own empty state
-    pub outcomes : os ≡ S.outcomes cs empty
-    pub state : M .abs m′ ≡ after cs empty
+    -- the outcomes, and P, K, T and the limits, are those of the steps, which start from their own empty state with the limits of the map m
+    pub outcomes : os ≡ S.outcomes cs (empty (M .abs m .limits))
+    pub state : M .abs m′ ≡ after cs (empty (M .abs m .limits))
     pub linked : M .Linked m′
     pub linked-all : Along (λ c m o m′. M .Linked m′) t
     -- accepted = held + handed out + dropped
@@ -70,3 +74,4 @@ module _ {Map : Type 0} (M : Kind Map) where
     pub proper : Proper (M .abs m′)
     pub same : Along RefusedSame t
     pub packed : Along PackedAfter t
+    pub limits : Along LimitsKept t

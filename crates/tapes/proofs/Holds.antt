@@ -4,8 +4,11 @@ use mathlib.Core.Path.{_≡_, refl, sym, ap, subst, _∙_}
 use mathlib.Core.List.{List, [], _∷_, _++_, append-assoc, append-nil}
 use native.Mathlib.Omega.{arith}
 use native.Mathlib.Numerals.{add-one}
-use lib.ListN.{length, take, drop, set, length-take, length-set, length-append}
-use lib.Seq.{take-all, take-suc-set, take-append-seam, drop-drop, drop-set-lt}
+use mathlib.Core.Bool.{Bool, true, false}
+use borrow.Author.Tests.{leb-true, leb-false}
+use lib.Dec.{leb}
+use lib.ListN.{length, getD, take, drop, set, length-take, length-set, length-append, List·getD-eq-default}
+use lib.Seq.{take-all, take-suc-set, take-append-seam, drop-drop, drop-set-lt, getD-take, getD-drop}
 use Rattle.parsing.specs.Split.{Held}
 
 -- a list that is cut before and after it goes on
@@ -51,6 +54,22 @@ held-as {x} {y} {a} {b} {at} {r} h e = rw e at h
 held-more : {x a b : List ℕ} {at r : ℕ} → at ≤ length a → Held x a at b r → at ≤ r
 held-more {x} {a} {b} {at} {r} i h =
     omega (arith, h .within, length-take r b, ap length (h .front), length-take (length a) (take at a ++ x), length-append (take at a) x, length-take at a)
+
+-- of what is held from the front of a slice of zeros: the number at i, 0 where there is none
+pub held-at : {x a b : List ℕ} {r : ℕ} (i : ℕ) → Held x a 0 b r → i < length a → getD a i 0 ≡ 0 → getD b i 0 ≡ getD x i 0
+held-at {x} {a} {b} {r} i h j z = go (leb r i) refl
+  where
+    go : (t : Bool) → leb r i ≡ t → getD b i 0 ≡ getD x i 0
+    go true e =
+        let g : r ≤ i = leb-true r i e in
+        let k : r + (i - r) ≡ i = omega arith in
+        let n : length x ≤ i = omega (arith, h .within, length-take r b, ap length (h .front), length-take (length a) x) in
+        subst (λ (m : ℕ). getD b m 0 ≡ getD a m 0) k (sym (getD-drop r b (i - r) 0) ∙ ap (λ (l : List ℕ). getD l (i - r) 0) (h .past) ∙ getD-drop r a (i - r) 0)
+        ∙ z
+        ∙ sym (List·getD-eq-default x 0 {n = i} n)
+    go false e =
+        let g : i < r = leb-false r i e in
+        sym (getD-take r b i 0 g) ∙ ap (λ (l : List ℕ). getD l i 0) (h .front) ∙ getD-take (length a) x i 0 j
 
 -- what is kept past a place is kept past a later one
 past-more : (a b : List ℕ) (n k : ℕ) → n ≤ k → drop n b ≡ drop n a → drop k b ≡ drop k a

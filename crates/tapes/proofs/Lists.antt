@@ -1,34 +1,39 @@
 -- Laws of a list's parts, and of what is printed of it. Assumes nothing.
 use Prim.Native.Nat.{ℕ, zero, suc, _+_, _-_, _≤_, _<_}
-use mathlib.Core.Path.{_≡_, refl, sym, ap, _∙_}
+use mathlib.Core.Path.{_≡_, refl, sym, ap, ap₂, _∙_}
 use mathlib.Core.List.{List, []}
 use native.Mathlib.Omega.{arith}
 use borrow.Author.Tests.{lt-ltb, le-ltb, leb-true, leb-false}
 use mathlib.Core.Bool.{Bool, true, false}
 use lib.Dec.{leb}
-use lib.ListN.{length, take, drop, length-take, length-drop, drop-of-length-le}
+use lib.ListN.{length, getD, replicate, take, drop, length-take, length-drop, drop-of-length-le}
 use lib.Seq.{drop-drop, take-all}
+use Rattle.steps.specs.State.{Limits, limit}
 use Rattle.multimap.specs.Arrays.{Arrays}
 use Rattle.replay.specs.Played.{Played}
 use Rattle.parsing.specs.Split.{gap, Held}
 use Rattle.tapes.specs.Parts.{partOf, restOf}
-use Rattle.tapes.specs.Printed.{leftText, runText, partsText, listsAfter, firstLists, listsText, Answers}
+use Rattle.tapes.specs.Printed.{leftText, runText, limitsIn, partsText, listsAfter, firstLists, listsText, Answers}
 use Rattle.tapes.specs.declared.Answered.{Answered}
-use Rattle.tapes.proofs.Holds.{held-none, held-join, Coming, come-all, come-less, come-none}
+use Rattle.tapes.proofs.Holds.{held-none, held-at, held-join, Coming, come-all, come-less, come-none}
 use Rattle.tapes.proofs.Numbers.{gap-within}
 
 -- what `replay` leaves is what is printed of the run
-pub played-left : {calls outs outs2 marks ans outs′ outs2′ ans′ : List ℕ} {m : Arrays} {n : ℕ}
-    → Played calls outs outs2 marks ans outs′ outs2′ ans′ m n → leftText n ans′ outs′ outs2′ ≡ runText calls outs outs2 marks ans
+pub played-left : {l : Limits} {calls outs outs2 marks ans outs′ outs2′ ans′ : List ℕ} {m : Arrays} {n : ℕ}
+    → Played l calls outs outs2 marks ans outs′ outs2′ ans′ m n → leftText n ans′ outs′ outs2′ ≡ runText l calls outs outs2 marks ans
 played-left p = cc
 
 -- what was read of a part, as far as the slice is long
 pub front-of : {x y was now : List ℕ} {r : ℕ} (n : ℕ) → Held x was 0 now r → length was ≡ n → x ≡ y → take r now ≡ take n y
 front-of {x} {y} {was} {now} {r} n h l e = h .front ∙ ap (λ (k : ℕ). take k x) l ∙ ap (take n) e
 
-module _ {a b d e f a′ b′ d′ e′ f′ was out : List ℕ} {at r : ℕ} where
-  pub run-as : a ≡ a′ → b ≡ b′ → d ≡ d′ → e ≡ e′ → f ≡ f′ → Held (runText a b d e f) was at out r → Held (runText a′ b′ d′ e′ f′) was at out r
-  run-as p q s t u h = rw (p, q, s, t, u) at h
+-- the limits that were read of a part
+pub limits-of : {x y now : List ℕ} {r : ℕ} → Held x (replicate 2 0) 0 now r → x ≡ y → limit (getD now 0 0) (getD now 1 0) ≡ limitsIn y
+limits-of {x} {y} {now} {r} h e = ap₂ limit (held-at 0 h (omega arith) refl) (held-at 1 h (omega arith) refl) ∙ ap limitsIn e
+
+module _ {l l′ : Limits} {a b d e f a′ b′ d′ e′ f′ was out : List ℕ} {at r : ℕ} where
+  pub run-as : l ≡ l′ → a ≡ a′ → b ≡ b′ → d ≡ d′ → e ≡ e′ → f ≡ f′ → Held (runText l a b d e f) was at out r → Held (runText l′ a′ b′ d′ e′ f′) was at out r
+  run-as o p q s t u h = rw (o, p, q, s, t, u) at h
 
 part-long : (s : List ℕ) → length (partOf s) ≡ gap 59 s
 part-long s = omega (arith, length-take (gap 59 s) s, gap-within 59 s)
@@ -41,7 +46,7 @@ rest-ends : (s : List ℕ) (k : ℕ) → restOf (drop k s) ≡ drop (ends s k) s
 rest-ends s k = drop-drop (gap 59 (drop k s) + 1) k s
 
 abbrev listEnd : List ℕ → ℕ
-listEnd s = ends s (ends s (ends s (ends s (ends s (gap 59 s + 1)))))
+listEnd s = ends s (ends s (ends s (ends s (ends s (ends s (gap 59 s + 1))))))
 
 lists-end : (s : List ℕ) → listsAfter s ≡ drop (listEnd s) s
 lists-end s =
@@ -50,11 +55,13 @@ lists-end s =
     let c = ends s b in
     let d = ends s c in
     let e = ends s d in
-    ap (λ (l : List ℕ). restOf (restOf (restOf (restOf l)))) (rest-ends s a)
-    ∙ ap (λ (l : List ℕ). restOf (restOf (restOf l))) (rest-ends s b)
-    ∙ ap (λ (l : List ℕ). restOf (restOf l)) (rest-ends s c)
-    ∙ ap restOf (rest-ends s d)
-    ∙ rest-ends s e
+    let f = ends s e in
+    ap (λ (l : List ℕ). restOf (restOf (restOf (restOf (restOf l))))) (rest-ends s a)
+    ∙ ap (λ (l : List ℕ). restOf (restOf (restOf (restOf l)))) (rest-ends s b)
+    ∙ ap (λ (l : List ℕ). restOf (restOf (restOf l))) (rest-ends s c)
+    ∙ ap (λ (l : List ℕ). restOf (restOf l)) (rest-ends s d)
+    ∙ ap restOf (rest-ends s e)
+    ∙ rest-ends s f
 
 drop-when : (s : List ℕ) (k : ℕ) (b : Bool) → leb k (length s) ≡ b → drop k s ≡ drop (length s - length (drop k s)) s
 drop-when s k true h =
@@ -88,9 +95,9 @@ module _ (s was : List ℕ) (at : ℕ) where
       record { text = rw (le-ltb (gap 59 s) (length s) g) (held-none was at a); eaten = rw l }
 
   -- there is one
-  pub one-list : {name calls left mid out : List ℕ} {r printed : ℕ} → name ≡ partOf s → calls ≡ restOf s → left ≡ listsAfter s → length name < length s
-      → Held name was at mid r → Held (partsText calls) mid r out printed → Answers s was at out (record { eaten = length s - length left; printed = printed })
-  one-list {name} {calls} {left} e c l h p q =
+  pub one-list : {name limits left mid out : List ℕ} {r printed : ℕ} → name ≡ partOf s → limits ≡ restOf s → left ≡ listsAfter s → length name < length s
+      → Held name was at mid r → Held (partsText limits) mid r out printed → Answers s was at out (record { eaten = length s - length left; printed = printed })
+  one-list {name} {limits} {left} e c l h p q =
       let g : gap 59 s < length s = omega (arith, part-long s, ap length e) in
       record { text = rw (lt-ltb (gap 59 s) (length s) g) (held-join (rw e at p) (rw c at q)); eaten = rw l }
 

@@ -1,5 +1,6 @@
--- A list of calls as text. It has six parts, a semicolon after each: a name; the numbers of the calls; what the out slices hold; what the second
--- ones hold; the marks; what the answers hold. Each run of digits is a number, and each digit is a mark. All other bytes only separate.
+-- A list of calls as text. It has seven parts, a semicolon after each: a name; the limits of members and of rounds; the numbers of the calls; what
+-- the out slices hold; what the second ones hold; the marks; what the answers hold. Each run of digits is a number, and each digit is a mark. All other
+-- bytes only separate.
 use Prim.Native.Nat.{ℕ, _+_, _*_, _-_, min}
 use mathlib.Core.Bool.{Bool, false, cond, _&&_, not}
 use mathlib.Core.List.{List, [], _∷_, _++_}

@@ -4,10 +4,10 @@ use mathlib.Core.Path.{_≡_}
 use mathlib.Core.Bool.{cond}
 use mathlib.Core.List.{List, [], _∷_, _++_}
 use lib.Dec.{eqb, ltb}
-use lib.ListN.{length, take}
-use Rattle.steps.specs.State.{empty}
+use lib.ListN.{length, take, getD}
+use Rattle.steps.specs.State.{Limits, limit}
 use Rattle.steps.specs.Call.{Call}
-use Rattle.steps.specs.Step.{outcomes, over}
+use Rattle.steps.specs.Step.{outcomes, over, makeOf}
 use Rattle.replay.specs.Tape.{decode, outsOf, outs2Of, answersOf}
 use Rattle.parsing.specs.Split.{gap, Held}
 use Rattle.printing.specs.Text.{decimal, spaced}
@@ -38,31 +38,36 @@ unfoldable pub leftText : ℕ → List ℕ → List ℕ → List ℕ → List �
 leftText n ans outs outs2 =
     ranText ++ (spaced n ++ (rows 4 0 ans ++ (outsText ++ (rows 16 0 outs ++ (outs2Text ++ (rows 16 0 outs2 ++ (10 ∷ [])))))))
 
--- the same after the calls, by the steps, of slices that held this before
-abbrev pub ranOf : List Call → List ℕ → List ℕ → List ℕ → List ℕ
-ranOf cs outs outs2 ans =
+-- the same after the calls, by the steps, on the new map with the limits l, of slices that held this before
+abbrev pub ranOf : Limits → List Call → List ℕ → List ℕ → List ℕ → List ℕ
+ranOf l cs outs outs2 ans =
     leftText
     (length cs)
-    (over (answersOf (outcomes cs empty)) ans)
-    (over (outsOf (outcomes cs empty)) outs)
-    (over (outs2Of (outcomes cs empty)) outs2)
+    (over (answersOf (outcomes cs (makeOf l .1))) ans)
+    (over (outsOf (outcomes cs (makeOf l .1))) outs)
+    (over (outs2Of (outcomes cs (makeOf l .1))) outs2)
 
-abbrev pub runText : List ℕ → List ℕ → List ℕ → List ℕ → List ℕ → List ℕ
-runText calls outs outs2 marks ans = ranOf (decode calls outs outs2 marks (length ans)) outs outs2 ans
+abbrev pub runText : Limits → List ℕ → List ℕ → List ℕ → List ℕ → List ℕ → List ℕ
+runText l calls outs outs2 marks ans = ranOf l (decode calls outs outs2 marks (length ans)) outs outs2 ans
 
--- the parts of a text from the calls on. What is past 8,192 calls, as many of their answers, and 8,192 of each other kind is left out
+-- the limits of members and of rounds: the first two numbers, 0 where there is none
+abbrev pub limitsIn : List ℕ → Limits
+limitsIn ns = limit (getD ns 0 0) (getD ns 1 0)
+
+-- the parts of a text from the limits on. What is past 8,192 calls, as many of their answers, and 8,192 of each other kind is left out
 abbrev pub partsText : List ℕ → List ℕ
 partsText s =
     runText
-    (take 49152 (numbersOf (partOf s)))
-    (take 8192 (numbersOf (partOf (restOf s))))
+    (limitsIn (numbersOf (partOf s)))
+    (take 49152 (numbersOf (partOf (restOf s))))
     (take 8192 (numbersOf (partOf (restOf (restOf s)))))
-    (take 8192 (marksOf (partOf (restOf (restOf (restOf s))))))
-    (take 32768 (numbersOf (partOf (restOf (restOf (restOf (restOf s)))))))
+    (take 8192 (numbersOf (partOf (restOf (restOf (restOf s))))))
+    (take 8192 (marksOf (partOf (restOf (restOf (restOf (restOf s)))))))
+    (take 32768 (numbersOf (partOf (restOf (restOf (restOf (restOf (restOf s))))))))
 
 -- what is left of a text after its first list
 abbrev pub listsAfter : List ℕ → List ℕ
-listsAfter s = restOf (restOf (restOf (restOf (restOf (restOf s)))))
+listsAfter s = restOf (restOf (restOf (restOf (restOf (restOf (restOf s))))))
 
 -- what is printed of the first list of a text: nothing, where no semicolon is left
 abbrev pub listText : List ℕ → List ℕ

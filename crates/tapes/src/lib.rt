@@ -10,6 +10,7 @@ use rows::put_after;
 use rows::put_rows;
 ghost use Prim.Native.Nat.{_≤_};
 ghost use lib.ListN.{length};
+ghost use Rattle.steps.specs.State.{limit};
 ghost use Rattle.parsing.specs.Split.{Held};
 ghost use Rattle.tapes.specs.Printed.{leftText, runText, partsText, listsText, Answers};
 
@@ -54,8 +55,10 @@ fn print_left(
     parsing::hold(b"\n", out, third)
 }
 
-// Runs the calls that the slices hold, and prints what they leave.
+// Runs the calls that the slices hold on the new map with these limits, and prints what they leave.
 fn print_run(
+    members_limit: u64,
+    rounds_limit: u64,
     calls: &[u64],
     outs: &mut [u64],
     outs2: &mut [u64],
@@ -64,14 +67,22 @@ fn print_run(
     out: &mut [u8],
     at: usize,
 ) -> usize
-    ensures { λ r. ⌜ Held (runText (now (calls .entry)) (now (outs .entry)) (now (outs2 .entry)) (now (marks .entry)) (now (answers .entry)))
+    ensures { λ r. ⌜ Held (runText (limit «members_limit» «rounds_limit») (now (calls .entry)) (now (outs .entry)) (now (outs2 .entry)) (now (marks .entry)) (now (answers .entry)))
         (now (out .entry)) at (now (out .exit)) r ⌝ }
 {
-    let ran = replay::replay(calls, outs, outs2, marks, answers);
+    let ran = replay::replay(
+        members_limit,
+        rounds_limit,
+        calls,
+        outs,
+        outs2,
+        marks,
+        answers,
+    );
     print_left(ran, answers, outs, outs2, out, at)
 }
 
-// Runs and prints the list whose parts, from its calls on, the text begins with.
+// Runs and prints the list whose parts, from its limits on, the text begins with.
 fn print_parts(one: &[u8], out: &mut [u8], at: usize) -> usize
     ensures { λ r. ⌜ Held (partsText (now (one .entry))) (now (out .entry)) at (now (out .exit)) r ⌝ }
 {
@@ -79,17 +90,22 @@ fn print_parts(one: &[u8], out: &mut [u8], at: usize) -> usize
     let three = rest(two);
     let four = rest(three);
     let five = rest(four);
+    let six = rest(five);
+    let mut limits = [0u64; 2];
     let mut calls = [0u64; 49152];
     let mut outs = [0u64; 8192];
     let mut outs2 = [0u64; 8192];
     let mut marks = [0u8; 8192];
     let mut answers = [0u64; 32768];
-    let c = read_numbers(part(one), &mut calls);
-    let o = read_numbers(part(two), &mut outs);
-    let o2 = read_numbers(part(three), &mut outs2);
-    let m = read_marks(part(four), &mut marks);
-    let a = read_numbers(part(five), &mut answers);
+    read_numbers(part(one), &mut limits);
+    let c = read_numbers(part(two), &mut calls);
+    let o = read_numbers(part(three), &mut outs);
+    let o2 = read_numbers(part(four), &mut outs2);
+    let m = read_marks(part(five), &mut marks);
+    let a = read_numbers(part(six), &mut answers);
     print_run(
+        limits[0],
+        limits[1],
         &calls[..c],
         &mut outs[..o],
         &mut outs2[..o2],
@@ -106,13 +122,13 @@ fn answer_list(text: &[u8], out: &mut [u8], at: usize) -> Answered
     ensures { λ r. ⌜ Answers (now (text .entry)) (now (out .entry)) at (now (out .exit)) r ⌝ }
 {
     let name = part(text);
-    let calls = rest(text);
-    let left = rest(rest(rest(rest(rest(calls)))));
+    let limits = rest(text);
+    let left = rest(rest(rest(rest(rest(rest(limits))))));
     let eaten = text.len() - left.len();
     if text.len() <= name.len() {
         return Answered { eaten, printed: at };
     }
     let named = parsing::hold(name, out, at);
-    let printed = print_parts(calls, out, named);
+    let printed = print_parts(limits, out, named);
     Answered { eaten, printed }
 }

@@ -5,7 +5,7 @@ use mathlib.Core.Bool.{Bool, true, false}
 use mathlib.Core.List.{List}
 use native.Mathlib.Omega.{arith}
 use lib.ListN.{length, getD, replicate, length-replicate}
-use Rattle.steps.specs.State.{maxTaken}
+use Rattle.steps.specs.State.{maxMembers, maxRounds, maxTaken}
 use Rattle.index.specs.Agree.{Lists}
 use Rattle.index.specs.Table.{Holds}
 use Rattle.links.specs.Route.{bit, tally}
@@ -13,7 +13,7 @@ use Rattle.links.specs.Places.{order, Linked}
 use Rattle.links.proofs.Lists.{length-order, in-array}
 use Rattle.multimap.specs.Arrays.{Arrays, Sized}
 use Rattle.multimap.specs.Map.{at, roundsOf, membersOf}
-use Rattle.multimap.specs.WellLinked.{WellLinked}
+use Rattle.multimap.specs.WellLinked.{WellLinked, Limited}
 use Rattle.multimap.proofs.Stores.{mem-tally, tally-mem}
 use Rattle.well_linked.specs.Marks.{marks}
 use Rattle.well_linked.specs.Chains.{Used, Inside, Chains, Begun, Followed, Ends, Recorded}
@@ -45,6 +45,19 @@ module _ {key next prev long : ℕ → ℕ} {all : List ℕ} {used : List Bool} 
           size = w .size k l u ∙ sym (f .counted k l);
           some = omega (arith, w .some k l u, f .counted k l);
         }
+
+-- what the check asks of a list's counts: its limit is at most `most`, and no more places are in use
+abbrev pub Within : List ℕ → ℕ → Type 0
+Within counts most = (at counts 3 ≤ most) × (at counts 0 ≤ at counts 3)
+
+pub limited-so : (m : Arrays) → Within (m .rounds) maxRounds → Within (m .members) maxMembers → Limited m
+limited-so m r g = record { allowed = record { members = g .0; rounds = r .0 }; members = g .1; rounds = r .1 }
+
+pub rounds-within : (m : Arrays) → Limited m → Within (m .rounds) maxRounds
+rounds-within m b = (b .allowed .rounds, b .rounds)
+
+pub members-within : (m : Arrays) → Limited m → Within (m .members) maxMembers
+members-within m b = (b .allowed .members, b .members)
 
 one-true : (b : Bool) (n : ℕ) → bit b ≡ n → 0 < n → b ≡ true
 one-true true n e h = refl
@@ -91,8 +104,8 @@ module _ (m : Arrays) (r : Linked (roundsOf m)) (g : Linked (membersOf m)) (used
         some = λ k l e. w .some k (of-use k e);
       }
 
-  pub well-linked-so : Records m used → Sized m → m .taken ≤ maxTaken → Holds (m .index) (m .keys) ks → WellLinked m
-  well-linked-so c s t h =
+  pub well-linked-so : Records m used → Sized m → m .taken ≤ maxTaken → Limited m → Holds (m .index) (m .keys) ks → WellLinked m
+  well-linked-so c s t b h =
       record {
         sized = s;
         chained =
@@ -106,4 +119,5 @@ module _ (m : Arrays) (r : Linked (roundsOf m)) (g : Linked (membersOf m)) (used
         some = λ k i. c .some k (below k i) (to-use k i);
         index = h;
         taken = t;
+        limited = b;
       }

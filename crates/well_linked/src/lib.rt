@@ -38,6 +38,12 @@ pub fn well_linked<'a>(
     ensures { λ α r. ⌜ Decides r (WellLinked α) ⌝ }
 {
     shown(keys, lengths, values, key_index, next_index, previous_index, index, members, rounds, *taken);
+    if !is_limited(rounds, ROUNDS) {
+        return false;
+    }
+    if !is_limited(members, MEMBERS) {
+        return false;
+    }
     if !list_linked(next_value, previous_value, ROUNDS, rounds) {
         return false;
     }
@@ -88,8 +94,20 @@ fn shown<'a>(
     taken: u32,
 ) {}
 
+// Says whether a list's limit is at most `most`, and no more places are in use.
+fn is_limited(counts: &Counts, most: u16) -> bool
+    ensures { λ r. ⌜ Decides r ((at (now (counts .entry)) 3 ≤ most) × (at (now (counts .entry)) 0 ≤ at (now (counts .entry)) 3)) ⌝ }
+{
+    let held = counts[0];
+    let limit = counts[3];
+    if most < limit {
+        return false;
+    }
+    held <= limit
+}
+
 // Says whether a list of places is linked that begins and ends at the cell `root`. The counts are how many places are in use, how many
-// have ever been, and the first freed one.
+// have ever been, the first freed one, and the limit.
 fn list_linked<'a>(next: &'a [u16], previous: &'a [u16], root: u16, counts: &'a Counts) -> bool
     requires { ⌜ (root < length (now next)) × (length (now previous) ≡ length (now next)) × (root ≤ 1024) ⌝ }
     ensures { λ r. ⌜ Decides r (Linked (listOf (now (next .entry)) (now (previous .entry)) root (now (counts .entry)))) ⌝ }

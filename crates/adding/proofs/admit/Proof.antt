@@ -15,25 +15,31 @@ given s =
 element-copy-out-held : tie.Need-element-copy-out-held
 element-copy-out-held c = search needs
 
+element-copy-out-most : tie.Need-element-copy-out-most
+element-copy-out-most c = search needs
+
 tell-requires : tie.Need-tell-requires
 tell-requires c κs = search needs
 
 returns : tie.Need-returns
 returns c =
-    let s = c .before .before .before .before in
+    let s = c .before .before .before .before .before in
     turned-full (given s) (s .args .k) (s .args .v) (s .args .at) (answerOf (s .args .welcome))
     (c .before .before .if1 .taken) _ (c .tell .ensures)
 
 element-copy-out-joined : tie.Need-element-copy-out-joined
 element-copy-out-joined c = search needs
 
+element-copy-out-most-joined : tie.Need-element-copy-out-most-joined
+element-copy-out-most-joined c = search needs
+
 tell-requires-2 : tie.Need-tell-requires-2
 tell-requires-2 c κs = search needs
 
 returns-2 : tie.Need-returns-2
 returns-2 c =
-    let room = c .before .before .before .before in
-    let s = room .before .before in
+    let room = c .before .before .before .before .before in
+    let s = room .before .before .before in
     turned-crowded (given s) (s .args .k) (s .args .v) (s .args .at) (answerOf (s .args .welcome))
     (room .if1 .left) (c .before .before .if2 .taken) _ (c .tell2 .ensures)
 
@@ -51,8 +57,8 @@ returns-3 c =
     let added = c .before .before in
     let joined = added .before .before .before .before .before .before .before .before .before .before .before .before .before .before .before in
     let spare = joined .before .before .before .before .before .before .before .before .before .before .before .before .before .before .before in
-    let room = spare .before .before in
-    let s = room .before .before in
+    let room = spare .before .before .before in
+    let s = room .before .before .before in
     let-in (given s) (s .args .k) (s .args .v) (s .args .at) (answerOf (s .args .welcome)) (room .if1 .left) (spare .if2 .left)
     (joined .join .ensures .0) (joined .join .ensures .1) _ (added .add .ensures) _ (c .tell3 .ensures)
 
@@ -61,9 +67,11 @@ admit-spec =
     tie.close
     (tie.spec
     element-copy-out-held
+    element-copy-out-most
     tell-requires
     returns
     element-copy-out-joined
+    element-copy-out-most-joined
     tell-requires-2
     returns-2
     join-requires

@@ -21,12 +21,15 @@ enum-known-found c = search needs
 element-copy-out-held : tie.Need-element-copy-out-held
 element-copy-out-held c = search needs
 
+element-copy-out-most : tie.Need-element-copy-out-most
+element-copy-out-most c = search needs
+
 tell-requires : tie.Need-tell-requires
 tell-requires c κs = search needs
 
 returns : tie.Need-returns
 returns c =
-    let s = c .before .before .before .before .before .before .before .before .before .before in
+    let s = c .before .before .before .before .before .before .before .before .before .before .before in
     told-full (given s) (s .pre) (s .args .k) (s .args .v) (c .before .before .if1 .taken) _ (c .tell .ensures)
 
 add-requires : tie.Need-add-requires
@@ -39,7 +42,7 @@ returns-2 : tie.Need-returns-2
 returns-2 c =
     let added = c .before .before in
     let room = added .before .before .before .before .before .before .before .before .before .before .before .before .before .before .before in
-    let seen = room .before .before .before in
+    let seen = room .before .before .before .before in
     let search = seen .before .before in
     let s = search .before .before .before in
     told-known (given s) (s .pre) (s .args .k) (s .args .v) (room .if1 .left) _ _ _ (sym (search .find .ensures) ∙ seen .found .given .1)
@@ -66,6 +69,7 @@ om-append-spec =
     find-requires
     enum-known-found
     element-copy-out-held
+    element-copy-out-most
     tell-requires
     returns
     add-requires

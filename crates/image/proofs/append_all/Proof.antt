@@ -1,16 +1,19 @@
 -- `image::append_all` meets its contract, by the laws of proofs/Appends.antt. The measure is how many pairs are left. Assumes nothing.
 use Prim.Native.Nat.{_-_}
 use mathlib.Core.Path.{refl}
+use native.Mathlib.Omega.{arith}
 use borrow.Author.Needs.{needs}
 use lib.ListN.{length}
+use Rattle.steps.specs.State.{limit}
 use Rattle.multimap.specs.Arrays.{Arrays, arrays}
+use Rattle.multimap.specs.Map.{at}
 use Rattle.image.proofs.Appends.{Building, building-none, building-one, building-stuck, building-all}
 use Rattle.image.proofs.append_all.Statement.{statement}
 use Rattle.image.proofs.append_all.Tie as tie
 
 abbrev Inv-loop : tie.InvT-loop
-Inv-loop _ _ _ _ _ _ _ _ _ _ _ _ _ _ ks vs _ _ keys lengths next-key previous-key values key-index next-value previous-value next-index previous-index index members rounds taken _ i =
-    Building ks vs i
+Inv-loop _ _ _ _ _ _ _ _ _ _ _ members₀ rounds₀ _ ks vs _ _ keys lengths next-key previous-key values key-index next-value previous-value next-index previous-index index members rounds taken _ i =
+    Building (limit (at members₀ 3) (at rounds₀ 3)) ks vs i
     (arrays keys lengths next-key previous-key values key-index next-value previous-value next-index previous-index index members rounds taken)
 
 abbrev μ-loop : tie.MeasureT-loop
@@ -33,7 +36,7 @@ module _ (c : tie.After-om-append Inv-loop μ-loop) where
   s = turn .before .before .before .before
 
 loop-holds : tie.Need-loop-holds Inv-loop μ-loop
-loop-holds c = let s = c .before .before in building-none (s .args .ks .now) (s .args .vs .now) _ (s .pre .0) (s .pre .1)
+loop-holds c = let s = c .before .before in building-none _ (s .args .ks .now) (s .args .vs .now) _ (s .pre .0) (s .pre .1)
 
 mul-k : tie.Need-mul-k Inv-loop μ-loop
 mul-k c = search needs
@@ -59,27 +62,29 @@ returns : tie.Need-returns Inv-loop μ-loop
 returns c =
     let a = c .before in
     let l = turn a .before in
-    building-stuck (s a .args .ks .now) (s a .args .vs .now) (s a .pre .2) (s a .pre .3) {m = turned l}
+    building-stuck _ (s a .args .ks .now) (s a .args .vs .now) (s a .pre .0 .limited .allowed .rounds) (s a .pre .2) (s a .pre .3) {m = turned l}
     (l .loop .inv) (turn a .loop-test .taken) _ _ refl refl _ _ (a .om-append .ensures) (c .if1 .taken)
 
 add-i : tie.Need-add-i Inv-loop μ-loop
-add-i c = search needs
+add-i c =
+    let a = c .before in
+    record { fits = omega (arith, turn a .loop-test .taken, s a .pre .2, s a .pre .0 .limited .allowed .rounds) }
 
 loop-less : tie.Need-loop-less Inv-loop μ-loop
-loop-less c = search needs
+loop-less c = omega (arith, turn (c .before) .loop-test .taken)
 
 loop-again : tie.Need-loop-again Inv-loop μ-loop
 loop-again c =
     let a = c .before in
     let l = turn a .before in
-    building-one (s a .args .ks .now) (s a .args .vs .now) (s a .pre .2) (s a .pre .3) {m = turned l}
+    building-one _ (s a .args .ks .now) (s a .args .vs .now) (s a .pre .0 .limited .allowed .rounds) (s a .pre .2) (s a .pre .3) {m = turned l}
     (l .loop .inv) (turn a .loop-test .taken) _ _ refl refl _ _ (a .om-append .ensures) (c .if1 .left)
 
 returns-2 : tie.Need-returns-2 Inv-loop μ-loop
 returns-2 c =
     let l = c .before in
     let s = l .before .before .before in
-    building-all (s .args .ks .now) (s .args .vs .now) (s .pre .2) (s .pre .3) {m = turned l} (l .loop .inv) (c .loop-test .left)
+    building-all _ (s .args .ks .now) (s .args .vs .now) (s .pre .0 .limited .allowed .rounds) (s .pre .2) (s .pre .3) {m = turned l} (l .loop .inv) (c .loop-test .left)
 
 pub append-all-spec : {M : Type 1} → statement M
 append-all-spec =

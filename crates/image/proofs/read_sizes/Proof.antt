@@ -7,7 +7,7 @@ use Rattle.image.proofs.read_sizes.Statement.{statement}
 use Rattle.image.proofs.read_sizes.Tie as tie
 
 returns : tie.Need-returns
-returns c = read-short (c .before .before .args .s .now) (c .if1 .taken)
+returns c ok = read-short _ (c .before .before .args .s .now) ok (c .if1 .taken)
 
 four-requires : tie.Need-four-requires
 four-requires c κs = search needs
@@ -20,9 +20,9 @@ returns-2 c =
     let members = c .before in
     let rounds = members .before in
     let s = rounds .before .before .before in
-    says-many (s .args .s .now) (rounds .before .if1 .left) _ _ (rounds .four .ensures .0) (members .four2 .ensures .0)
-    (⊎-elim (λ w. rw (lt-ltb 1024 (rounds .four .result) (w .taken)))
-    (λ w. rw (le-ltb 1024 (rounds .four .result) (w .0 .left)) (w .1 .taken)) (c .if2 .came))
+    says-many _ (s .args .s .now) (rounds .before .if1 .left) _ _ (rounds .four .ensures .0) (members .four2 .ensures .0)
+    (⊎-elim (λ w. rw (lt-ltb _ (rounds .four .result) (w .taken)))
+    (λ w. rw (le-ltb _ (rounds .four .result) (w .0 .left)) (w .1 .taken)) (c .if2 .came))
 
 mul-if4 : tie.Need-mul-if4
 mul-if4 c = search needs
@@ -35,7 +35,7 @@ returns-3 c =
     let members = c .before .before .before in
     let rounds = members .before in
     let s = rounds .before .before .before in
-    says-length (s .args .s .now) (rounds .before .if1 .left) _ _ (rounds .four .ensures .0) (members .four2 .ensures .0)
+    says-length _ (s .args .s .now) (rounds .before .if1 .left) _ _ (rounds .four .ensures .0) (members .four2 .ensures .0)
     (c .before .before .if2 .left)
     (ltb-false _ _ (c .before .if3 .left)) (c .if4 .taken)
 

@@ -75,7 +75,7 @@ array-share-prefix-ks c = search needs
 slice-aggregate-append-all : tie.Need-slice-aggregate-append-all
 slice-aggregate-append-all c =
     let r = c .before .before .before .before .before .before .before .before .before .before .before .before .before .before .before in
-    sym (many-members (bytes r) (n r) (s r .args .m) (s r .pre .2) (xs r) (ys r) (xs-are r) (ys-are r))
+    sym (many-members _ (bytes r) (s r .pre .0 .limited .allowed) (n r) (s r .args .m) (s r .pre .2) (xs r) (ys r) (xs-are r) (ys-are r))
 
 array-share-prefix-vs : tie.Need-array-share-prefix-vs
 array-share-prefix-vs c = search needs
@@ -83,13 +83,13 @@ array-share-prefix-vs c = search needs
 slice-aggregate-append-all-2 : tie.Need-slice-aggregate-append-all-2
 slice-aggregate-append-all-2 c =
     let r = c .before .before .before .before .before .before .before .before .before .before .before .before .before .before .before .before in
-    sym (many-rounds (bytes r) (n r) (s r .args .m) (s r .pre .2) (xs r) (ys r) (xs-are r) (ys-are r))
+    sym (many-rounds _ (bytes r) (s r .pre .0 .limited .allowed) (n r) (s r .args .m) (s r .pre .2) (xs r) (ys r) (xs-are r) (ys-are r))
 
 append-all-requires : tie.Need-append-all-requires
 append-all-requires c κs =
     let r = c .before .before .before .before .before .before .before .before .before .before .before .before .before .before .before .before in
-    let ks = many-members (bytes r) (n r) (s r .args .m) (s r .pre .2) (xs r) (ys r) (xs-are r) (ys-are r) in
-    let vs = many-rounds (bytes r) (n r) (s r .args .m) (s r .pre .2) (xs r) (ys r) (xs-are r) (ys-are r) in
+    let ks = many-members _ (bytes r) (s r .pre .0 .limited .allowed) (n r) (s r .args .m) (s r .pre .2) (xs r) (ys r) (xs-are r) (ys-are r) in
+    let vs = many-rounds _ (bytes r) (s r .pre .0 .limited .allowed) (n r) (s r .args .m) (s r .pre .2) (xs r) (ys r) (xs-are r) (ys-are r) in
     (s r .pre .0, s r .pre .1, omega (arith, ks, s r .pre .2 .few), ks ∙ sym vs)
 
 get-requires : tie.Need-get-requires
@@ -103,7 +103,7 @@ returns c =
     let joined = c .before in
     let built = joined .before .before .before in
     let r = arrays-read built in
-    restored-by (bytes r) (n r) (s r .args .m) (s r .pre .2) (xs r) (ys r) (xs-are r) (ys-are r) _ _
+    restored-by _ (bytes r) (s r .pre .0 .limited .allowed) (n r) (s r .args .m) (s r .pre .2) (xs r) (ys r) (xs-are r) (ys-are r) _ _
     (built .append-all .ensures) (c .if1 .taken) _
     (joined .get .ensures)
 
@@ -111,7 +111,7 @@ returns-2 : tie.Need-returns-2
 returns-2 c =
     let built = c .before .before .before .before in
     let r = arrays-read built in
-    restored-many (bytes r) (n r) (s r .args .m) (s r .pre .2) (xs r) (ys r) (xs-are r) (ys-are r) _ _
+    restored-many _ (bytes r) (s r .pre .0 .limited .allowed) (n r) (s r .args .m) (s r .pre .2) (xs r) (ys r) (xs-are r) (ys-are r) _ _
     (built .append-all .ensures) (c .if1 .left)
 
 pub restore-spec : {M : Type 1} → statement M

@@ -13,6 +13,9 @@ element-copy-out-fresh c = search needs
 element-copy-out-free : tie.Need-element-copy-out-free
 element-copy-out-free c = search needs
 
+element-copy-out-limit : tie.Need-element-copy-out-limit
+element-copy-out-limit c = search needs
+
 one-more-requires : tie.Need-one-more-requires
 one-more-requires c κs = search needs
 
@@ -35,6 +38,7 @@ take-spec =
     element-copy-out-len
     element-copy-out-fresh
     element-copy-out-free
+    element-copy-out-limit
     one-more-requires
     one-more-requires-2
     returns

@@ -27,7 +27,7 @@ tell-requires c κs = search needs
 returns : tie.Need-returns
 returns c =
     let too-many = c .before .before .before in
-    let few-values = too-many .before in
+    let few-values = too-many .before .before .before in
     let few-keys = few-values .before .before in
     let s = few-keys .before .before in
     told-members (s .args .keys-minimum) (s .args .values-minimum) (given s) (s .pre) _
@@ -40,7 +40,7 @@ returns-2 : tie.Need-returns-2
 returns-2 c =
     let keys-fit = c .before .before .before in
     let too-many = keys-fit .before in
-    let few-values = too-many .before in
+    let few-values = too-many .before .before .before in
     let few-keys = few-values .before .before in
     let s = few-keys .before .before in
     told-rounds (s .args .keys-minimum) (s .args .values-minimum) (given s) (s .pre) _
@@ -55,7 +55,7 @@ returns-3 c =
     let values-fit = c .before .before .before in
     let keys-fit = values-fit .before in
     let too-many = keys-fit .before in
-    let few-values = too-many .before in
+    let few-values = too-many .before .before .before in
     let few-keys = few-values .before .before in
     let s = few-keys .before .before in
     told-above (s .args .keys-minimum) (s .args .values-minimum) (given s) (s .pre) _
@@ -75,7 +75,7 @@ returns-4 c =
     let values-fit = both-fit .before in
     let keys-fit = values-fit .before in
     let too-many = keys-fit .before in
-    let few-values = too-many .before in
+    let few-values = too-many .before .before .before in
     let few-keys = few-values .before .before in
     let s = few-keys .before .before in
     told-packed (s .args .keys-minimum) (s .args .values-minimum) (given s) (s .pre) _

@@ -69,7 +69,7 @@ fill-requires c κs =
     let keys = keys-held values in
     let s = start keys in
     fill-ready (given s) (s .pre) (members .copy-members .ensures) (keys .get .ensures) (rounds .copy-rounds .ensures)
-    (values .get2 .ensures) (seats .seat .ensures)
+    (values .get2 .ensures) (vacated seats .vacate .ensures) (seats .seat .ensures)
 
 returns : tie.Need-returns
 returns c =
@@ -80,7 +80,7 @@ returns c =
     let keys = keys-held values in
     let s = start keys in
     packs (given s) (s .pre) (members .copy-members .ensures) (keys .get .ensures) (rounds .copy-rounds .ensures) (values .get2 .ensures)
-    (seats .seat .ensures) (c .fill .ensures)
+    (vacated seats .vacate .ensures) (seats .seat .ensures) (c .fill .ensures)
 
 pub pack-spec : {M : Type 1} → statement M
 pack-spec =

@@ -3,7 +3,9 @@ use Prim.Native.Nat.{_-_}
 use mathlib.Core.Path.{sym, _∙_}
 use native.Mathlib.Omega.{arith}
 use borrow.Author.Needs.{needs}
+use Rattle.steps.specs.State.{limit}
 use Rattle.multimap.specs.Arrays.{Arrays, arrays}
+use Rattle.multimap.specs.Map.{at}
 use Rattle.packing.proofs.Seats.{Seating, seating-more, seating-found, seating-all}
 use Rattle.packing.proofs.seat.Statement.{statement}
 use Rattle.packing.proofs.seat.Tie as tie
@@ -13,7 +15,7 @@ Inv-loop keys₀ lengths₀ next-key₀ previous-key₀ values₀ key-index₀ n
     next-index₀ previous-index₀ index₀ members₀ rounds₀ taken₀ numbers held i₀
     keys lengths next-key previous-key values key-index next-value previous-value next-index
     previous-index index members rounds taken i =
-    Seating numbers held i
+    Seating numbers (limit (at members₀ 3) (at rounds₀ 3)) held i
     (arrays keys lengths next-key previous-key values key-index next-value previous-value next-index previous-index index members rounds taken)
 
 abbrev μ-loop : tie.MeasureT-loop

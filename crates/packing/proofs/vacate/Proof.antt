@@ -25,13 +25,27 @@ put-requires-4 c κs = search needs
 
 returns : tie.Need-returns
 returns c =
-    let rounds-last = c .before .before .before in
+    let rounds-last = c .before .before .before .before .before in
     let rounds-first = rounds-last .before .before in
     let members-last = rounds-first .before .before in
     let members-first = members-last .before .before in
     let s = members-first .before .before in
     vacated (given s) (members-first .put .ensures) (members-last .put2 .ensures) (rounds-first .put3 .ensures) (rounds-last .put4 .ensures)
 
+element-copy-out-keys-limit : tie.Need-element-copy-out-keys-limit
+element-copy-out-keys-limit c = search needs
+
+element-copy-out-values-limit : tie.Need-element-copy-out-values-limit
+element-copy-out-values-limit c = search needs
+
 pub vacate-spec : {M : Type 1} → statement M
 vacate-spec =
-    tie.close (tie.spec put-requires put-requires-2 put-requires-3 put-requires-4 returns)
+    tie.close
+    (tie.spec
+    put-requires
+    put-requires-2
+    put-requires-3
+    put-requires-4
+    element-copy-out-keys-limit
+    element-copy-out-values-limit
+    returns)

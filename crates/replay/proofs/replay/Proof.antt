@@ -1,4 +1,5 @@
--- `replay::replay` meets its contract: demand 3 holds of every list of calls from the empty map. Assumes nothing.
+-- `replay::replay` meets its contract: demand 3 holds of every list of calls from a new map. Assumes nothing.
+use Rattle.steps.specs.State.{limit}
 use Rattle.replay.proofs.Tapes.{played}
 use borrow.Author.Needs.{needs}
 use Rattle.replay.proofs.replay.Statement.{statement}
@@ -23,8 +24,8 @@ returns : tie.Need-returns
 returns c =
     let ran = c .before .before .before .before .before .before in
     let made = ran .before .before .before .before .before .before .before .before .before .before .before .before .before .before .before .before .before .before in
-    let s = made .before .before .before .before .before .before .before .before .before .before .before .before .before .before .before .before .before .before .before .before in
-    (_, played (s .args .calls .now) (s .args .outs .now) (s .args .outs2 .now) (s .args .marks .now) (s .args .answers .now) _ _ _ _ _ _ (ran .run .ensures) (made .om-new .ensures .0) (made .om-new .ensures .1))
+    let s = made .before .before .before .before .before .before .before .before .before .before .before .before .before .before .before .before .before .before .before .before .before in
+    (_, played (limit (s .args .members-limit) (s .args .rounds-limit)) (s .args .calls .now) (s .args .outs .now) (s .args .outs2 .now) (s .args .marks .now) (s .args .answers .now) _ _ _ _ _ _ (ran .run .ensures) (made .om-new .ensures .makes .linked) (made .om-new .ensures .makes .state))
 
 pub replay-spec : {M : Type 1} → statement M
 replay-spec =

@@ -10,13 +10,15 @@ use Rattle.tapes.proofs.answer_list.Statement.{statement}
 use Rattle.tapes.proofs.answer_list.Tie as tie
 
 -- what is left after the list
-left-is : (c : tie.After-rest6) → c .rest6 .result .now ≡ listsAfter (c .before .before .before .before .before .before .before .before .before .args .text .now)
+left-is : (c : tie.After-rest7) → c .rest7 .result .now ≡ listsAfter (c .before .before .before .before .before .before .before .before .before .before .args .text .now)
 left-is c =
-    c .rest6 .ensures
+    c .rest7 .ensures
     ∙ ap restOf
-    (c .before .rest5 .ensures
+    (c .before .rest6 .ensures
     ∙ ap restOf
-    (c .before .before .rest4 .ensures ∙ ap restOf (c .before .before .before .rest3 .ensures ∙ ap restOf (c .before .before .before .before .rest2 .ensures ∙ ap restOf (c .before .before .before .before .before .rest .ensures)))))
+    (c .before .before .rest5 .ensures
+    ∙ ap restOf
+    (c .before .before .before .rest4 .ensures ∙ ap restOf (c .before .before .before .before .rest3 .ensures ∙ ap restOf (c .before .before .before .before .before .rest2 .ensures ∙ ap restOf (c .before .before .before .before .before .before .rest .ensures))))))
 
 part-requires : tie.Need-part-requires
 part-requires c κs = search needs
@@ -39,14 +41,17 @@ rest-requires-5 c κs = search needs
 rest-requires-6 : tie.Need-rest-requires-6
 rest-requires-6 c κs = search needs
 
+rest-requires-7 : tie.Need-rest-requires-7
+rest-requires-7 c κs = search needs
+
 sub-eaten : tie.Need-sub-eaten
-sub-eaten c = omega (arith, ap length (left-is c), lists-less (c .before .before .before .before .before .before .before .before .before .args .text .now))
+sub-eaten c = omega (arith, ap length (left-is c), lists-less (c .before .before .before .before .before .before .before .before .before .before .args .text .now))
 
 returns : tie.Need-returns
 returns c =
     let cut = c .before in
-    let s = cut .before .before .before .before .before .before .before .before .before in
-    no-list (s .args .text .now) (s .args .out .now) (s .args .at) (s .pre) (cut .before .before .before .before .before .before .part .ensures) (left-is cut) (c .if1 .taken)
+    let s = cut .before .before .before .before .before .before .before .before .before .before in
+    no-list (s .args .text .now) (s .args .out .now) (s .args .at) (s .pre) (cut .before .before .before .before .before .before .before .part .ensures) (left-is cut) (c .if1 .taken)
 
 hold-requires : tie.Need-hold-requires
 hold-requires c κs = search needs
@@ -62,8 +67,8 @@ returns-2 c =
     let printed = c .before .before in
     let name = printed .before .before .before .before in
     let cut = name .before .before .before in
-    let s = cut .before .before .before .before .before .before .before .before .before in
-    one-list (s .args .text .now) (s .args .out .now) (s .args .at) (cut .before .before .before .before .before .before .part .ensures) (cut .before .before .before .before .before .rest .ensures) (left-is cut) (name .before .before .if1 .left) (name .hold .ensures) (printed .print-parts .ensures)
+    let s = cut .before .before .before .before .before .before .before .before .before .before in
+    one-list (s .args .text .now) (s .args .out .now) (s .args .at) (cut .before .before .before .before .before .before .before .part .ensures) (cut .before .before .before .before .before .before .rest .ensures) (left-is cut) (name .before .before .if1 .left) (name .hold .ensures) (printed .print-parts .ensures)
 
 pub answer-list-spec : {M : Type 1} → statement M
 answer-list-spec =
@@ -76,6 +81,7 @@ answer-list-spec =
     rest-requires-4
     rest-requires-5
     rest-requires-6
+    rest-requires-7
     sub-eaten
     returns
     hold-requires

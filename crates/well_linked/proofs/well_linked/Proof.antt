@@ -3,13 +3,14 @@ use Prim.Native.Nat.{_≤_}
 use native.Mathlib.Omega.{arith}
 use borrow.Author.Needs.{needs}
 use borrow.Author.Tests.{not-true, not-false}
-use Rattle.steps.specs.State.{maxTaken}
+use Rattle.steps.specs.State.{maxMembers, maxRounds, maxTaken}
 use Rattle.index.proofs.Agree.{decides-map, if-true, if-false}
 use Rattle.links.specs.Places.{Linked, order}
 use Rattle.multimap.specs.Arrays.{Arrays, Sized, arrays}
 use Rattle.multimap.specs.Map.{roundsOf, membersOf}
+use Rattle.multimap.specs.WellLinked.{Limited}
 use Rattle.well_linked.proofs.Linking.{marked-so}
-use Rattle.well_linked.proofs.Whole.{Records, inside, listed, recorded, well-linked-so}
+use Rattle.well_linked.proofs.Whole.{Within, limited-so, rounds-within, members-within, Records, inside, listed, recorded, well-linked-so}
 use Rattle.well_linked.proofs.well_linked.Statement.{statement}
 use Rattle.well_linked.proofs.well_linked.Tie as tie
 
@@ -22,7 +23,7 @@ given s =
 -- the arrays' lengths, as they are lent
 module _ (c : tie.After-list-linked2) where
   abbrev shown : tie.After-shown
-  shown = c .before .before .before .before .before .before .before
+  shown = c .before .before .before .before .before .before .before .before .before .before .before
 
   abbrev start : tie.Start
   start = shown .before .before .before .before .before .before .before .before .before .before .before
@@ -59,38 +60,64 @@ module _ (c : tie.After-list-linked2) where
   small : given start .taken ≤ maxTaken
   small = omega (arith, shown .before .row-known .given)
 
--- both lists are linked
-module _ (c : tie.Else2) where
+-- both limits are kept to, and both lists are linked
+module _ (c : tie.Else4) where
   abbrev m : Arrays
   m = given (start (c .before))
+
+  limited : Limited m
+  limited =
+      let members-test = c .before .before .before .before .before .before .before .before in
+      let rounds-test = members-test .before .before in
+      limited-so m
+      (if-true (rounds-test .before .is-limited .result) {P = Within (m .rounds) maxRounds} (not-false _ (rounds-test .if1 .left))
+      (rounds-test .before .is-limited .ensures))
+      (if-true (members-test .before .is-limited2 .result) {P = Within (m .members) maxMembers} (not-false _ (members-test .if2 .left))
+      (members-test .before .is-limited2 .ensures))
 
   rounds-linked : Linked (roundsOf m)
   rounds-linked =
       let test = c .before .before .before .before in
-      if-true (test .before .list-linked .result) {P = Linked (roundsOf m)} (not-false _ (test .if1 .left))
+      if-true (test .before .list-linked .result) {P = Linked (roundsOf m)} (not-false _ (test .if3 .left))
       (test .before .list-linked .ensures)
 
   members-linked : Linked (membersOf m)
-  members-linked = if-true (c .before .list-linked2 .result) (not-false _ (c .if2 .left)) (c .before .list-linked2 .ensures)
+  members-linked = if-true (c .before .list-linked2 .result) (not-false _ (c .if4 .left)) (c .before .list-linked2 .ensures)
 
 shown-requires : tie.Need-shown-requires
 shown-requires c κs = search needs
 
-list-linked-requires : tie.Need-list-linked-requires
-list-linked-requires c κs = search needs
+is-limited-requires : tie.Need-is-limited-requires
+is-limited-requires c κs = search needs
 
 returns : tie.Need-returns
 returns c =
+    let rounds = c .before .is-limited in
+    λ w. if-false (rounds .result) (not-true _ (c .if1 .taken)) (rounds .ensures) (rounds-within _ (w .limited))
+
+is-limited-requires-2 : tie.Need-is-limited-requires-2
+is-limited-requires-2 c κs = search needs
+
+returns-2 : tie.Need-returns-2
+returns-2 c =
+    let members = c .before .is-limited2 in
+    λ w. if-false (members .result) (not-true _ (c .if2 .taken)) (members .ensures) (members-within _ (w .limited))
+
+list-linked-requires : tie.Need-list-linked-requires
+list-linked-requires c κs = search needs
+
+returns-3 : tie.Need-returns-3
+returns-3 c =
     let rounds = c .before .list-linked in
-    λ w. if-false (rounds .result) (not-true _ (c .if1 .taken)) (rounds .ensures) (w .chained .rounds)
+    λ w. if-false (rounds .result) (not-true _ (c .if3 .taken)) (rounds .ensures) (w .chained .rounds)
 
 list-linked-requires-2 : tie.Need-list-linked-requires-2
 list-linked-requires-2 c κs = search needs
 
-returns-2 : tie.Need-returns-2
-returns-2 c =
+returns-4 : tie.Need-returns-4
+returns-4 c =
     let members = c .before .list-linked2 in
-    λ w. if-false (members .result) (not-true _ (c .if2 .taken)) (members .ensures) (w .chained .members)
+    λ w. if-false (members .result) (not-true _ (c .if4 .taken)) (members .ensures) (w .chained .members)
 
 element-copy-out-first : tie.Need-element-copy-out-first
 element-copy-out-first c = search needs
@@ -118,20 +145,20 @@ chains-linked-requires c κs =
     let both = c .before .before .before .before .before .before .before .before .before in
     inside (m both) (rounds-linked both)
 
-returns-3 : tie.Need-returns-3
-returns-3 c =
+returns-5 : tie.Need-returns-5
+returns-5 c =
     let marked = c .before .before .before .before .before in
     let both = marked .before .before .before .before .before .before in
     let u = marked-so (membersOf (m both)) 256 (marked .mark .result) (marked .mark .ensures) (members-linked both) in
     let chains = c .before .chains-linked in
-    λ w. if-false (chains .result) {P = Records (m both) _} (not-true _ (c .if3 .taken)) (chains .ensures)
+    λ w. if-false (chains .result) {P = Records (m both) _} (not-true _ (c .if5 .taken)) (chains .ensures)
     (recorded (m both) (rounds-linked both) (members-linked both) _ u w)
 
 agrees-requires : tie.Need-agrees-requires
 agrees-requires c κs = search needs
 
-returns-4 : tie.Need-returns-4
-returns-4 c =
+returns-6 : tie.Need-returns-6
+returns-6 c =
     let test = c .before .before in
     let marked = test .before .before .before .before .before in
     let both = marked .before .before .before .before .before .before in
@@ -139,8 +166,8 @@ returns-4 c =
     let g = members-linked both in
     let u = marked-so (membersOf (m both)) 256 (marked .mark .result) (marked .mark .ensures) g in
     let chains = test .before .chains-linked in
-    let w = if-true (chains .result) {P = Records (m both) _} (not-false _ (test .if3 .left)) (chains .ensures) in
-    decides-map (c .agrees .result) (well-linked-so (m both) r g _ u w (sized (both .before)) (small (both .before))) (λ w. w .index)
+    let w = if-true (chains .result) {P = Records (m both) _} (not-false _ (test .if5 .left)) (chains .ensures) in
+    decides-map (c .agrees .result) (well-linked-so (m both) r g _ u w (sized (both .before)) (small (both .before)) (limited both)) (λ w. w .index)
     (c .agrees .ensures (order (membersOf (m both))) (listed (m both) r g _ u))
 
 pub well-linked-spec : {M : Type 1} → statement M
@@ -148,10 +175,14 @@ well-linked-spec =
     tie.close
     (tie.spec
     shown-requires
-    list-linked-requires
+    is-limited-requires
     returns
-    list-linked-requires-2
+    is-limited-requires-2
     returns-2
+    list-linked-requires
+    returns-3
+    list-linked-requires-2
+    returns-4
     element-copy-out-first
     element-copy-out-len
     element-copy-out-fresh
@@ -159,6 +190,6 @@ well-linked-spec =
     mark-requires
     element-copy-out-held
     chains-linked-requires
-    returns-3
+    returns-5
     agrees-requires
-    returns-4)
+    returns-6)
