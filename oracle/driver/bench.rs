@@ -7,7 +7,7 @@ use crate::chart;
 use crate::clock::{deep, hold, keep_memory, median, time_copies, time_copy, time_handing, timed};
 use crate::crate_map::CrateMap;
 use crate::library::{ByValue, PortMap, Tapes, UNSAID};
-use crate::model::{Call, Op, MAX_MEMBERS, MAX_ROUNDS};
+use crate::model::{Call, Op, HIGHEST, MAX_MEMBERS, MAX_ROUNDS};
 use crate::port::{Port, Tape};
 
 // The bytes of the port's record.
@@ -229,8 +229,8 @@ fn time_case(case: &Case) -> Row {
 
 // The map is made and used in one tape, so the time of the calls before is taken off. No time where that is nearly all.
 fn time_tape(case: &Case) -> Option<f64> {
-    let before = Tape::of(&case.before);
-    let whole = Tape::of(&[&case.before[..], &case.timed].concat());
+    let before = Tape::of(HIGHEST, &case.before);
+    let whole = Tape::of(HIGHEST, &[&case.before[..], &case.timed].concat());
     let mut least = [f64::MAX; 2];
     for run in 0..TAPES {
         for (tape, least) in [&before, &whole].into_iter().zip(&mut least) {
@@ -260,7 +260,7 @@ fn time_new() -> Row {
     let mut map = PortMap::new();
     let on_port = || {
         let turn = |_| {
-            map.make_new();
+            hold(&mut map.make_new());
             hold(&mut map);
         };
         timed(|| (0..TOGETHER).for_each(turn)) / TOGETHER as f64
@@ -322,7 +322,7 @@ fn time_reading() -> Row {
     time_both(
         "reading an image of 1,024 rounds; on the crate, appends",
         Aim::Fifth,
-        || timed(|| hold(&mut map.read_image(&image))),
+        || timed(|| hold(&mut map.read_image(HIGHEST, &image))),
         on_crate,
     )
 }

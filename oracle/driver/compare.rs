@@ -1,21 +1,23 @@
 // Runs lists of calls on the model, the crate and the port, and compares them after every call.
 
 use crate::crate_map::{strikes_neighbours, CrateMap};
-use crate::model::{Accounts, Answer, Call, Model, Op, RefusedBy, OPS};
+use crate::model::{Accounts, Answer, Call, Limits, Model, Op, RefusedBy, HIGHEST, OPS};
 use crate::port::{is_refusal, untouched, ModelPort, Port, Tape};
 use crate::stops::{outcome_of, while_running};
 use std::fmt;
 
-// A list to print, a call on each line.
-pub struct Listed<'list>(pub &'list [Call]);
+// A list to print: the limits of the map that it begins on, and a call on each line.
+pub struct Listed<'list>(pub Limits, pub &'list [Call]);
 
 impl fmt::Display for Listed<'_> {
     fn fmt(&self, f: &mut fmt::Formatter) -> fmt::Result {
-        self.0.iter().try_for_each(|call| writeln!(f, "  {}", call))
+        writeln!(f, "  a new map with {}", self.0)?;
+        self.1.iter().try_for_each(|call| writeln!(f, "  {}", call))
     }
 }
 
 pub struct Difference {
+    pub limits: Limits,
     // the calls up to the one after which it was seen
     pub list: Vec<Call>,
     pub what: String,
@@ -28,6 +30,8 @@ pub struct Tally {
     pub refused: [u64; OPS.len()],
     pub on_crate: [u64; OPS.len()],
     pub refused_by: RefusedBy,
+    // those that a map which holds something refused, and would not have refused with the highest limits
+    pub refused_by_own: RefusedBy,
     // retains given to the crate in several passes
     pub split_retains: u64,
     // the most rounds and members held
@@ -40,7 +44,15 @@ pub struct Tally {
 }
 
 impl Tally {
-    pub fn count(&mut self, op: Op, answer: Answer, model: &Model) -> Result<(), String> {
+    // Counts the making of a map, which may be refused.
+    pub fn count_making(&mut self, answer: Answer) {
+        if let Answer::Refused(by) = answer {
+            self.refused_by[by as usize] += 1;
+        }
+    }
+
+    pub fn count(&mut self, call: &Call, answer: Answer, model: &Model) -> Result<(), String> {
+        let op = call.op;
         self.made[op as usize] += 1;
         if let Answer::Refused(by) = answer {
             if !is_refusal(by) {
@@ -48,6 +60,7 @@ impl Tally {
             }
             self.refused[op as usize] += 1;
             self.refused_by[by as usize] += 1;
+            self.refused_by_own[by as usize] += is_by_own_limits(call, model) as u64;
         } else if op != Op::Taken {
             self.on_crate[op as usize] += 1;
         }
@@ -61,9 +74,17 @@ impl Tally {
     }
 }
 
+// Was the call refused only for the map's own limits, and does the map hold something?
+fn is_by_own_limits(call: &Call, model: &Model) -> bool {
+    let with_highest = || Model { limits: HIGHEST, ..model.clone() };
+    model.limits != HIGHEST && !model.pairs.is_empty() && with_highest().refusal(call).is_none()
+}
+
 // A list of calls under way, on the model and the crate.
 #[derive(Clone)]
 pub struct Run {
+    // with which the map was to be made
+    pub limits: Limits,
     pub list: Vec<Call>,
     pub model: Model,
     accounts: Accounts,
@@ -71,12 +92,8 @@ pub struct Run {
 }
 
 impl Run {
-    pub fn new() -> Run {
-        Run { list: Vec::new(), model: Model::default(), accounts: Accounts::default(), crate_map: CrateMap::new() }
-    }
-
     fn difference(&self, what: String) -> Difference {
-        Difference { list: self.list.clone(), what }
+        Difference { limits: self.limits, list: self.list.clone(), what }
     }
 }
 
@@ -92,12 +109,19 @@ impl Session {
         Session { tally: Tally::default(), ports, lists: 0 }
     }
 
+    // Begins a list, on a new map with these limits.
+    pub fn begin(&mut self, limits: Limits) -> Run {
+        let (answer, model) = Model::make(limits);
+        self.tally.count_making(answer);
+        Run { limits, list: Vec::new(), model, accounts: Accounts::default(), crate_map: CrateMap::new() }
+    }
+
     // Makes one call more of a list, and compares answer, slices and state.
     pub fn call(&mut self, run: &mut Run, call: Call) -> Result<(), Difference> {
         run.list.push(call);
-        let Run { list, model, accounts, crate_map } = run;
+        let Run { limits, list, model, accounts, crate_map } = run;
         let (tally, call) = (&mut self.tally, &list[list.len() - 1]);
-        let compared = running(list, || {
+        let compared = running(*limits, list, || {
             let (mut out, mut out2) = (untouched(call.out), untouched(call.out2));
             let answer = step(tally, call, model, accounts, &mut out, &mut out2)?;
             if !matches!(answer, Answer::Refused(_)) {
@@ -108,14 +132,15 @@ impl Session {
         compared.map_err(|what| run.difference(what))
     }
 
-    // Ends a list: the port runs it from an empty map, and its state is read after each call from number `from` on. Calls
+    // Ends a list: the port runs it from a new map, and its state is read after each call from number `from` on. Calls
     // before that were compared with another list.
     pub fn end(&mut self, run: &Run, from: usize) -> Result<(), Difference> {
         if self.ports.is_empty() {
             return Ok(());
         }
         self.lists += 1;
-        let compared = running(&run.list, || self.run_tape(&Tape::of(&with_reads(&run.list, from))));
+        let longer = with_reads(run.limits, &run.list, from);
+        let compared = running(run.limits, &run.list, || self.run_tape(&Tape::of(run.limits, &longer)));
         compared.map_err(|what| run.difference(what))
     }
 
@@ -130,8 +155,8 @@ impl Session {
     }
 
     // Runs a whole list.
-    pub fn list(&mut self, list: &[Call]) -> Result<(), Difference> {
-        let mut run = Run::new();
+    pub fn list(&mut self, limits: Limits, list: &[Call]) -> Result<(), Difference> {
+        let mut run = self.begin(limits);
         for call in list {
             self.call(&mut run, call.clone())?;
         }
@@ -142,14 +167,15 @@ impl Session {
     pub fn tape(&mut self, tape: &Tape) -> Result<(), Difference> {
         let list = tape.decode();
         let found = |port: &Box<dyn Port>| tape_difference(port.as_ref(), tape).map_or(Ok(()), Err);
-        let compared = running(&list, || self.ports.iter().try_for_each(found));
-        compared.map_err(|what| Difference { list, what })
+        let compared = running(tape.limits, &list, || self.ports.iter().try_for_each(found));
+        compared.map_err(|what| Difference { limits: tape.limits, list, what })
     }
 }
 
 // Does a part of a list's comparison. A panic is a difference, and a crash prints the list.
-fn running(list: &[Call], part: impl FnOnce() -> Result<(), String>) -> Result<(), String> {
-    while_running(&Listed(list), || outcome_of(part)).unwrap_or_else(|stop| Err(format!("the driver {}", stop)))
+fn running(limits: Limits, list: &[Call], part: impl FnOnce() -> Result<(), String>) -> Result<(), String> {
+    let listed = Listed(limits, list);
+    while_running(&listed, || outcome_of(part)).unwrap_or_else(|stop| Err(format!("the driver {}", stop)))
 }
 
 // The call on the model, counted.
@@ -163,7 +189,7 @@ fn step(
 ) -> Result<Answer, String> {
     let (record, held) = (model.record(call.k).len() as u64, model.pairs.len() as u64);
     let answer = model.step(call, out, out2);
-    tally.count(call.op, answer, model)?;
+    tally.count(call, answer, model)?;
     accounts.count(call, answer, record, held);
     if !accounts.balanced(model) {
         return Err(format!("the accounts {:?} do not balance", accounts));
@@ -207,8 +233,8 @@ fn read_crate(map: &CrateMap, model: &Model, named: u64) -> Result<(), String> {
 const FEW_MEMBERS: usize = 8;
 
 // A list with reads of the whole state after each call from number `from` on.
-fn with_reads(list: &[Call], from: usize) -> Vec<Call> {
-    let mut model = Model::default();
+fn with_reads(limits: Limits, list: &[Call], from: usize) -> Vec<Call> {
+    let mut model = Model::new(limits);
     let mut longer = Vec::new();
     for (at, call) in list.iter().enumerate() {
         model.step(call, &mut untouched(call.out), &mut untouched(call.out2));

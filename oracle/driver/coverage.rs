@@ -1,7 +1,11 @@
-// What a comparison has to meet, or it would say little: every call, every refusal, both limits, and the port in each way.
+// What a comparison has to meet, or it would say little: every call, every refusal, the highest limits and lower ones, and the
+// port in each way.
 
 use crate::compare::Tally;
 use crate::model::{Op, MAX_MEMBERS, MAX_ROUNDS, OPS, REFUSALS};
+
+// The refusals of a map that is full against limits of its own.
+const BY_OWN: [usize; 3] = [1, 2, 6];
 
 // What the run did not meet. Without the port there are no images, and so no refusals of them.
 pub fn gaps(tally: &Tally, with_port: bool) -> Vec<String> {
@@ -12,9 +16,11 @@ pub fn gaps(tally: &Tally, with_port: bool) -> Vec<String> {
             gaps.push(format!("{} was never made and accepted", name));
         }
     }
-    let last = if with_port { REFUSALS } else { 10 };
-    let unmet = (1..=last).filter(|&number| tally.refused_by[number] == 0);
+    let of_images = |number: &usize| (11..15).contains(number);
+    let unmet = (1..=REFUSALS).filter(|number| tally.refused_by[*number] == 0 && (with_port || !of_images(number)));
     gaps.extend(unmet.map(|number| format!("nothing was refused by {}", number)));
+    let unmet = BY_OWN.into_iter().filter(|&number| tally.refused_by_own[number] == 0);
+    gaps.extend(unmet.map(|number| format!("nothing was refused by {} for a map's own limits", number)));
     if tally.most_rounds != MAX_ROUNDS {
         gaps.push(format!("no map held {} rounds, but {} at most", MAX_ROUNDS, tally.most_rounds));
     }

@@ -1,8 +1,9 @@
-// Records damaged at random: the port's well_linked beside a check written here from document 01, module 6, with sets and plain loops.
+// Records damaged at random: the port's well_linked beside a check written here from document 01, module 6, and from document
+// 02, No. 1, with sets and plain loops.
 
 use crate::library::{Map, PortMap};
 use crate::lists::{start_place, Random};
-use crate::model::{Call, Op};
+use crate::model::{Call, Limits, Op, HIGHEST};
 use crate::stops::while_running;
 use std::collections::HashSet;
 
@@ -57,7 +58,16 @@ fn indexed(m: &Map, members: &[u16]) -> bool {
     })
 }
 
+// The limits are at most the highest, and no more is held than they say.
+fn limited(m: &Map) -> bool {
+    let Limits { members, rounds } = m.limits();
+    members <= 256 && rounds <= 1024 && m.keys_len as u64 <= members && m.values_len as u64 <= rounds
+}
+
 fn well_linked(m: &Map) -> bool {
+    if !limited(m) {
+        return false;
+    }
     let members = order(&m.next_key, &m.previous_key, [m.keys_len, m.keys_fresh, m.keys_free]);
     let rounds = order(&m.next_value, &m.previous_value, [m.values_len, m.values_fresh, m.values_free]);
     members.zip(rounds).map_or(false, |(members, rounds)| {
@@ -83,9 +93,10 @@ fn chained(m: &Map, place: u16, rounds: &[u16]) -> bool {
         })
 }
 
-// A well-linked map made by some calls.
+// A well-linked map made by some calls, with the highest limits or with so few that some of the calls are refused.
 fn sample(random: &mut Random) -> Map {
-    let mut map = PortMap::new();
+    let few = Limits { members: random.below(13) as u64, rounds: random.below(40) as u64 };
+    let (_, mut map) = PortMap::with_limits(if random.below(2) == 0 { HIGHEST } else { few });
     let (calls, members) = (random.below(40), 1 + random.below(12));
     for _ in 0..calls {
         let k = random.below(members) as u64;
@@ -111,7 +122,7 @@ fn damage(m: &mut Map, random: &mut Random) {
         _ => random.below(65536) as u16,
     };
     let near = |random: &mut Random, n: usize, end: usize| if random.below(4) == 0 { end } else { random.below(n) };
-    let slot: &mut u16 = match random.below(15) {
+    let slot: &mut u16 = match random.below(17) {
         0 => &mut m.length[near(random, 12, 11)],
         1 => &mut m.next_key[near(random, 12, 256)],
         2 => &mut m.previous_key[near(random, 12, 256)],
@@ -124,7 +135,8 @@ fn damage(m: &mut Map, random: &mut Random) {
             let at = (start_place(random.below(12) as u64) as usize + random.below(3)) % 512;
             &mut m.index[at]
         }
-        9..=11 => [&mut m.keys_len, &mut m.keys_fresh, &mut m.keys_free].into_iter().nth(random.below(3)).unwrap(),
+        9 | 10 => return damage_limit(m, random),
+        11..=13 => [&mut m.keys_len, &mut m.keys_fresh, &mut m.keys_free].into_iter().nth(random.below(3)).unwrap(),
         _ => [&mut m.values_len, &mut m.values_fresh, &mut m.values_free].into_iter().nth(random.below(3)).unwrap(),
     };
     let new = any(random, *slot);
@@ -135,6 +147,24 @@ fn damage(m: &mut Map, random: &mut Random) {
     if random.below(20) == 0 {
         m.taken = random.next() as u32;
     }
+}
+
+// One of the limits set to what is held, the highest limit, one beside either, or any number.
+fn damage_limit(m: &mut Map, random: &mut Random) {
+    let (limit, held, highest) = match random.below(2) {
+        0 => (&mut m.keys_limit, m.keys_len, 256),
+        _ => (&mut m.values_limit, m.values_len, 1024),
+    };
+    *limit = match random.below(8) {
+        0 => held,
+        1 => held.wrapping_sub(1),
+        2 => held + 1,
+        3 => highest,
+        4 => highest - 1,
+        5 => highest + 1,
+        6 => limit.wrapping_add(1),
+        _ => random.next() as u16,
+    };
 }
 
 // Checks so many records, a third of them undamaged. Do both always agree?

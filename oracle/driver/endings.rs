@@ -3,7 +3,7 @@
 
 use crate::compare::{Listed, Session, Tally};
 use crate::coverage;
-use crate::model::{Answer, Model, Op, MAX_MEMBERS, MAX_ROUNDS, OPS, REFUSALS};
+use crate::model::{Answer, Call, Model, Op, HIGHEST, MAX_MEMBERS, MAX_ROUNDS, OPS, REFUSALS};
 use crate::port::{replay_with, words, Port, Tape};
 use crate::selftest::{sample, WrongPort};
 use std::process::Command;
@@ -23,6 +23,7 @@ fn gaps_are_told() -> bool {
         made: [2; OPS.len()],
         on_crate: [1; OPS.len()],
         refused_by: [1; REFUSALS + 1],
+        refused_by_own: [1; REFUSALS + 1],
         most_rounds: MAX_ROUNDS,
         most_members: MAX_MEMBERS,
         tapes: 1,
@@ -39,6 +40,7 @@ fn gaps_are_told() -> bool {
         && coverage::gaps(&whole(), true).is_empty()
         && (0..OPS.len()).all(|op| without(&|tally| tally.made[op] = 0) == 1)
         && (1..=REFUSALS).all(|number| without(&|tally| tally.refused_by[number] = 0) == 1)
+        && [1, 2, 6].iter().all(|&number| without(&|tally| tally.refused_by_own[number] = 0) == 1)
         && without(&|tally| tally.on_crate[Op::PopBack as usize] = 0) == 1
         && without(&|tally| tally.most_rounds -= 1) == 1
         && without(&|tally| tally.most_members -= 1) == 1
@@ -48,17 +50,18 @@ fn gaps_are_told() -> bool {
 
 // By the steps, which would be a fault of the driver's, and by a port.
 fn unknown_refusals_are_told() -> bool {
-    let port = WrongPort(|_, _, _, _| Answer::Refused(15));
-    let found = Session::new(vec![Box::new(port)]).list(&sample()).err();
-    let counted = |number| Tally::default().count(Op::Append, Answer::Refused(number), &Model::default());
-    found.map_or(false, |found| found.what.contains("15 is no refusal of document 01"))
-        && [1, 14].map(counted) == [Ok(()), Ok(())]
-        && [0, 15, u64::MAX].map(counted).iter().all(|counted| counted.is_err())
+    let port = WrongPort(|_, _, _, _| Answer::Refused(16));
+    let found = Session::new(vec![Box::new(port)]).list(HIGHEST, &sample()).err();
+    let (append, model) = (Call::new(Op::Append, 1, 1), Model::new(HIGHEST));
+    let counted = |number| Tally::default().count(&append, Answer::Refused(number), &model);
+    found.map_or(false, |found| found.what.contains("16 is no refusal of document 01"))
+        && [1, 15].map(counted) == [Ok(()), Ok(())]
+        && [0, 16, u64::MAX].map(counted).iter().all(|counted| counted.is_err())
 }
 
 fn panics_are_told() -> bool {
     let port = WrongPort(|_, call, _, _| panic!("{} stops the port", call));
-    let found = Session::new(vec![Box::new(port)]).list(&sample()).err();
+    let found = Session::new(vec![Box::new(port)]).list(HIGHEST, &sample()).err();
     found.map_or(false, |found| found.list == sample() && found.what.contains("append 7 10 stops the port"))
 }
 
@@ -87,7 +90,8 @@ struct CrashingPort(fn());
 
 impl Port for CrashingPort {
     fn replay(&self, tape: &mut Tape) -> Result<u64, String> {
-        let ran = replay_with(tape, &mut Model::default(), |model, call, out, out2| {
+        let mut model = Model::new(tape.limits);
+        let ran = replay_with(tape, &mut model, |model, call, out, out2| {
             if call.op == Op::PopBack {
                 (self.0)();
             }
@@ -100,12 +104,12 @@ impl Port for CrashingPort {
 // Crashes in this way while the sample is running.
 pub fn crash(name: &str) -> bool {
     let crash = CRASHES.iter().find(|row| row.0 == name).expect("there is no such crash").1;
-    Session::new(vec![Box::new(CrashingPort(crash))]).list(&sample()).is_ok()
+    Session::new(vec![Box::new(CrashingPort(crash))]).list(HIGHEST, &sample()).is_ok()
 }
 
 fn crash_prints_its_list(name: &str) -> bool {
     let driver = std::env::current_exe().expect("the driver has a path");
     let run = Command::new(driver).args(["selftest", name]).output().expect("the driver can be run");
     let said = String::from_utf8_lossy(&run.stderr);
-    !run.status.success() && said.contains("crash by SIG") && said.contains(&Listed(&sample()).to_string())
+    !run.status.success() && said.contains("crash by SIG") && said.contains(&Listed(HIGHEST, &sample()).to_string())
 }

@@ -2,7 +2,7 @@
 
 use crate::crate_map::{strikes_neighbours, CrateMap};
 use crate::linked;
-use crate::model::{Call, Model, Op, MAX_MEMBERS, MAX_ROUNDS};
+use crate::model::{Call, Limits, Model, Op, HIGHEST, MAX_MEMBERS, MAX_ROUNDS};
 use crate::port::{answer_of, ModelPort, Port, Tape};
 use crate::stops::{note_panics, outcome_of};
 use std::collections::VecDeque;
@@ -17,6 +17,7 @@ pub fn run() -> bool {
         ("pack_to above the limits", pack_to_above()),
         ("no limit of rounds", no_limit_of_rounds()),
         ("no limit of members", no_limit_of_members()),
+        ("no limits of a club's own", no_limits_of_its_own()),
         ("a forgotten drain", forgotten_drain()),
         ("EntryValues", ends_in_any_mix()),
     ];
@@ -26,16 +27,21 @@ pub fn run() -> bool {
     checks.iter().all(|check| check.1)
 }
 
-// Prints an input and what the crate does; and for a list what document 01 and the port answer to its last call. Does the
-// port answer as document 01 says, in each of its ways?
+// Prints an input and what the crate does; and for a list what document 01 and the port answer to its last call, on a map
+// with the highest limits. Does the port answer as document 01 says, in each of its ways?
 fn say(input: &str, crate_does: &str, list: &[Call]) -> bool {
+    say_within(HIGHEST, input, crate_does, list)
+}
+
+// The same on a map with these limits.
+fn say_within(limits: Limits, input: &str, crate_does: &str, list: &[Call]) -> bool {
     println!("input:    {}", input);
     println!("crate:    {}", crate_does);
     let mut agrees = true;
     if !list.is_empty() {
-        let due = last_answer(list, &ModelPort);
+        let due = last_answer(limits, list, &ModelPort);
         println!("document: {}", due);
-        let found: Vec<String> = linked::ports().iter().map(|port| last_answer(list, port.as_ref())).collect();
+        let found: Vec<String> = linked::ports().iter().map(|port| last_answer(limits, list, port.as_ref())).collect();
         agrees = found.iter().all(|found| *found == due);
         println!("port:     {}", found.first().map_or("not linked", |found| found));
     }
@@ -43,8 +49,8 @@ fn say(input: &str, crate_does: &str, list: &[Call]) -> bool {
     agrees
 }
 
-fn last_answer(list: &[Call], port: &dyn Port) -> String {
-    let mut tape = Tape::of(list);
+fn last_answer(limits: Limits, list: &[Call], port: &dyn Port) -> String {
+    let mut tape = Tape::of(limits, list);
     if let Err(what) = port.replay(&mut tape) {
         return what;
     }
@@ -65,7 +71,7 @@ fn appends(pairs: &[(u64, u64)]) -> Vec<Call> {
 }
 
 fn model_with(pairs: &[(u64, u64)]) -> Model {
-    let mut model = Model::default();
+    let mut model = Model::new(HIGHEST);
     for call in appends(pairs) {
         model.step(&call, &mut [], &mut []);
     }
@@ -170,11 +176,11 @@ fn pack_to_below(members: u64, rounds: u64, number: u64, place: &str) -> bool {
     say(&text_of(&list), &format!("{}, {}", stop, after), &list)
         && stop.contains(place)
         && whole
-        && last_refusal(&list) == Some(number)
+        && last_refusal(HIGHEST, &list) == Some(number)
 }
 
-fn last_refusal(list: &[Call]) -> Option<u64> {
-    let mut model = Model::default();
+fn last_refusal(limits: Limits, list: &[Call]) -> Option<u64> {
+    let mut model = Model::new(limits);
     let (last, before) = list.split_last()?;
     for call in before {
         model.step(call, &mut [], &mut []);
@@ -200,7 +206,7 @@ fn pack_to_above() -> bool {
             && done
             && whole
             && room == (members, rounds)
-            && last_refusal(&list) == Some(6)
+            && last_refusal(HIGHEST, &list) == Some(6)
     })
 }
 
@@ -210,7 +216,7 @@ fn no_limit_of_rounds() -> bool {
     let found = format!("takes it: values_len is {}", map.map.values_len());
     say("append 1 with 1,024 rounds held", &found, &appends(&pairs))
         && map.map.values_len() == 1025
-        && last_refusal(&appends(&pairs)) == Some(1)
+        && last_refusal(HIGHEST, &appends(&pairs)) == Some(1)
 }
 
 fn no_limit_of_members() -> bool {
@@ -219,7 +225,22 @@ fn no_limit_of_members() -> bool {
     let found = format!("takes it: keys_len is {}", map.map.keys_len());
     say("append of a new member with 256 members held", &found, &appends(&pairs))
         && map.map.keys_len() == 257
-        && last_refusal(&appends(&pairs)) == Some(2)
+        && last_refusal(HIGHEST, &appends(&pairs)) == Some(2)
+}
+
+// A map for one member and two rounds: a third round, and a second member.
+fn no_limits_of_its_own() -> bool {
+    let limits = Limits { members: 1, rounds: 2 };
+    let lists: [(&[(u64, u64)], u64); 2] = [(&[(1, 10), (1, 11), (1, 12)], 1), (&[(1, 10), (2, 20)], 2)];
+    lists.iter().all(|&(pairs, number)| {
+        let (map, list) = (crate_with(pairs), appends(pairs));
+        let held = (map.map.keys_len(), map.map.values_len());
+        let input = format!("{}, on a map with {}", text_of(&list), limits);
+        let found = format!("has no such limits and takes it: keys_len is {}, values_len {}", held.0, held.1);
+        say_within(limits, &input, &found, &list)
+            && held.1 == pairs.len()
+            && last_refusal(limits, &list) == Some(number)
+    })
 }
 
 // The crate takes the old rounds away while its drain is dropped, so a drain that is forgotten leaves them.

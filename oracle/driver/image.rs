@@ -1,6 +1,6 @@
 // The image of a map (document 01, module 7) written and read over plain lists, from the document.
 
-use crate::model::{Model, Pair, MAX_MEMBERS, MAX_ROUNDS};
+use crate::model::{Limits, Model, Pair};
 
 // Sizes first; then the members of all pairs, then their rounds.
 pub fn write(model: &Model) -> Vec<u8> {
@@ -15,13 +15,16 @@ pub fn lay_out(sizes: [u32; 2], pairs: &[Pair]) -> Vec<u8> {
     sizes.iter().flat_map(|size| size.to_le_bytes()).chain(members).chain(rounds).collect()
 }
 
-// The map of an image, or the number of the first row of the table that turns it away.
-pub fn read(bytes: &[u8]) -> Result<Model, u64> {
+// The map of an image that is read into these limits, or the number of the first row of the table that turns it away.
+pub fn read(limits: Limits, bytes: &[u8]) -> Result<Model, u64> {
+    if limits.too_high() {
+        return Err(15);
+    }
     if bytes.len() < 8 {
         return Err(11);
     }
     let (n, m) = (number(&bytes[..4]), number(&bytes[4..8]));
-    if n > MAX_ROUNDS as u64 || m > MAX_MEMBERS as u64 {
+    if n > limits.rounds || m > limits.members {
         return Err(12);
     }
     let n = n as usize;
@@ -34,7 +37,7 @@ pub fn read(bytes: &[u8]) -> Result<Model, u64> {
     if m != members.len() as u64 {
         return Err(14);
     }
-    Ok(Model { pairs, members, taken: n as u64 })
+    Ok(Model { limits, pairs, members, taken: n as u64 })
 }
 
 // The number in some bytes, lowest first.

@@ -3,7 +3,7 @@
 use crate::image;
 use crate::library::{Map, PortMap};
 use crate::lists::Random;
-use crate::model::{Answer, Call, Model, Op, Pair, RefusedBy, REFUSALS};
+use crate::model::{Answer, Call, Limits, Model, Op, Pair, RefusedBy, HIGHEST, REFUSALS};
 use crate::port::{is_refusal, untouched, words};
 use crate::stops::while_running;
 
@@ -45,20 +45,21 @@ pub fn compare(seed: u64) -> Result<RefusedBy, String> {
 }
 
 fn print_tally(name: &str, read: &RefusedBy) {
-    let refused: Vec<String> = (11..15).map(|number| format!("refused by {}: {}", number, read[number])).collect();
+    let refused: Vec<String> = (11..16).map(|number| format!("refused by {}: {}", number, read[number])).collect();
     let all: u64 = read.iter().sum();
     println!("{}: {} byte strings, done: {}, {}", name, all, read[0], refused.join(", "));
 }
 
 impl Reader {
-    // Reads the bytes on both sides, for the port to arrays that hold anything, and compares answer and map; then writes the
-    // map again.
-    fn read(&mut self, bytes: &[u8]) -> Result<(), String> {
-        while_running(&format_args!("  om_read_image of {:?}", bytes), || self.compare_reading(bytes))
+    // Reads the bytes on both sides into these limits, for the port to arrays that hold anything, and compares answer and map;
+    // then writes the map again.
+    fn read(&mut self, limits: Limits, bytes: &[u8]) -> Result<(), String> {
+        let what = format_args!("  om_read_image with {} of {:?}", limits, bytes);
+        while_running(&what, || self.compare_reading(limits, bytes))
     }
 
-    fn compare_reading(&mut self, bytes: &[u8]) -> Result<(), String> {
-        let due = image::read(bytes);
+    fn compare_reading(&mut self, limits: Limits, bytes: &[u8]) -> Result<(), String> {
+        let due = image::read(limits, bytes);
         let refused = due.as_ref().err().copied();
         if refused.map_or(false, |number| !is_refusal(number)) {
             return Err(format!("image.rs refuses by {:?}, which is no number of document 01", refused));
@@ -67,16 +68,22 @@ impl Reader {
         let answer = words(refused.map_or(Answer::Done, Answer::Refused));
         let turn = self.read.iter().sum::<u64>() as usize % self.garbage.len();
         self.map.spoil(&self.garbage[turn]);
-        let found = self.map.read_image(bytes);
+        let found = self.map.read_image(limits, bytes);
         if found != answer {
-            return Err(format!("om_read_image answers {:?}, not {:?}, to {:?}", found, answer, bytes));
+            let asked = format!("{:?} with {}", bytes, limits);
+            return Err(format!("om_read_image answers {:?}, not {:?}, to {}", found, answer, asked));
         }
-        let model = due.unwrap_or_default();
-        self.compare(&model).and_then(|()| self.write(&model)).map_err(|what| format!("{}, after {:?}", what, bytes))
+        // a refused reading leaves the new map with these limits, or with none after 15
+        let model = due.unwrap_or_else(|_| Model::new(limits));
+        let compared = self.compare(&model).and_then(|()| self.write(&model));
+        compared.map_err(|what| format!("{}, after {:?} with {}", what, bytes, limits))
     }
 
-    // The map beside the lists: pairs, members, T, and whether it is well-linked.
+    // The map beside the lists: limits, pairs, members, T, and whether it is well-linked.
     fn compare(&mut self, model: &Model) -> Result<(), String> {
+        if self.map.map().limits() != model.limits {
+            return Err(format!("the map has {}", self.map.map().limits()));
+        }
         let (n, m) = (model.pairs.len(), model.members.len());
         let calls = [Call::iter(n + 1, n + 2), Call::lending(Op::Keys, 0, 0, m + 1), Call::new(Op::Taken, 0, 0)];
         let mut lists = model.clone();
@@ -116,7 +123,8 @@ impl Reader {
 }
 
 // Every arrangement of up to three rounds over three members: its image, each byte of it changed in turn to every value, its
-// beginnings of every length, and one byte more.
+// beginnings of every length, and one byte more, all of them for the most that a map may hold; and the image for limits that
+// just hold it, and for those beside.
 fn changed_images(reader: &mut Reader) -> Result<(), String> {
     let members = [0, 1, u64::MAX - 255];
     for n in 0..=3 {
@@ -124,16 +132,28 @@ fn changed_images(reader: &mut Reader) -> Result<(), String> {
             let pairs: Vec<Pair> =
                 (0..n).map(|at| (members[number / 3usize.pow(at) % 3], 256 * at as u64 + 7)).collect();
             let members = image::by_first_appearance(&pairs);
-            let whole = image::write(&Model { pairs, members, taken: 0 });
+            let whole = image::write(&Model { pairs, members, ..Model::new(HIGHEST) });
+            read_beside(reader, &whole)?;
             for at in 0..whole.len() {
                 let mut changed = whole.clone();
                 for value in 0..=255 {
                     changed[at] = value;
-                    reader.read(&changed)?;
+                    reader.read(HIGHEST, &changed)?;
                 }
-                reader.read(&whole[..at])?;
+                reader.read(HIGHEST, &whole[..at])?;
             }
-            reader.read(&[&whole[..], &[0]].concat())?;
+            reader.read(HIGHEST, &[&whole[..], &[0]].concat())?;
+        }
+    }
+    Ok(())
+}
+
+// An image, one cut off and none, for every limits up to those above its sizes, and for limits that are too high.
+fn read_beside(reader: &mut Reader, whole: &[u8]) -> Result<(), String> {
+    let counts = [0, 1, 2, 3, 4, 256, 257, 1024, 1025, u64::MAX];
+    for (members, rounds) in counts.iter().flat_map(|&members| counts.map(|rounds| (members, rounds))) {
+        for bytes in [whole, &whole[..whole.len() - 1], &[]] {
+            reader.read(Limits { members, rounds }, bytes)?;
         }
     }
     Ok(())
@@ -142,9 +162,23 @@ fn changed_images(reader: &mut Reader) -> Result<(), String> {
 fn random_strings(reader: &mut Reader, seed: u64) -> Result<(), String> {
     let mut random = Random(seed);
     for _ in 0..RANDOM_STRINGS {
-        reader.read(&random_string(&mut random))?;
+        let bytes = random_string(&mut random);
+        reader.read(random_limits(&mut random, &bytes), &bytes)?;
     }
     Ok(())
+}
+
+// Mostly the highest; otherwise limits beside the sizes that the bytes begin with, few of both, or any.
+fn random_limits(random: &mut Random, bytes: &[u8]) -> Limits {
+    let size = |at: usize| bytes.get(at..at + 4).map_or(0, |four| u32::from_le_bytes(four.try_into().unwrap()) as u64);
+    let beside = |random: &mut Random, size: u64| (size + random.below(3) as u64).saturating_sub(1);
+    match random.below(8) {
+        0 | 1 => Limits { members: beside(random, size(4)), rounds: beside(random, size(0)) },
+        2 => Limits { members: random.below(8) as u64, rounds: random.below(14) as u64 },
+        3 => Limits { members: 250 + random.below(9) as u64, rounds: 1018 + random.below(9) as u64 },
+        4 if random.below(4) == 0 => Limits { members: random.next(), rounds: random.next() },
+        _ => HIGHEST,
+    }
 }
 
 // Mostly an image with one thing of it changed, or none; sometimes any bytes.

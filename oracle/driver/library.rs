@@ -4,7 +4,7 @@
 use crate::declarations;
 pub use crate::declarations::Record as Map;
 use crate::lists::Random;
-use crate::model::{Call, Op};
+use crate::model::{Call, Limits, Op, HIGHEST};
 use crate::port::{Port, Tape};
 
 // What an answer's numbers are before a call, which writes all four.
@@ -17,9 +17,15 @@ impl Map {
         unsafe { words.as_ptr().cast::<Map>().read() }
     }
 
-    // Makes it the empty map, whatever it is.
-    pub fn make_new(&mut self) {
-        unsafe { declarations::new(self) }
+    // Makes it the empty map with these limits, whatever it is. The four numbers of the answer.
+    pub fn make_new(&mut self, limits: Limits) -> [u64; 4] {
+        let mut answer = UNSAID;
+        unsafe { declarations::new(self, limits.members, limits.rounds, &mut answer) };
+        answer
+    }
+
+    pub fn limits(&self) -> Limits {
+        Limits { members: self.keys_limit.into(), rounds: self.values_limit.into() }
     }
 
     pub fn well_linked(&self) -> bool {
@@ -39,19 +45,24 @@ pub struct PortMap {
 }
 
 impl PortMap {
-    // The empty map, made of a record of any numbers.
+    // The empty map with the highest limits.
     pub fn new() -> PortMap {
+        PortMap::with_limits(HIGHEST).1
+    }
+
+    // The answer to the making of a map with these limits, and the map, made of a record of any numbers.
+    pub fn with_limits(limits: Limits) -> ([u64; 4], PortMap) {
         let mut map = Box::new(Map::any(&mut Random(1)));
-        map.make_new();
-        PortMap { map }
+        let answer = map.make_new(limits);
+        (answer, PortMap { map })
     }
 
     pub fn map(&self) -> &Map {
         &self.map
     }
 
-    pub fn make_new(&mut self) {
-        self.map.make_new();
+    pub fn make_new(&mut self) -> [u64; 4] {
+        self.map.make_new(HIGHEST)
     }
 
     // Makes any call with its lent slices. The four numbers of its answer.
@@ -115,10 +126,11 @@ impl PortMap {
         answer
     }
 
-    // Makes it the map of an image, or the empty one, whatever it was.
-    pub fn read_image(&mut self, bytes: &[u8]) -> [u64; 4] {
-        let mut answer = UNSAID;
-        unsafe { declarations::read_image(&mut *self.map, bytes.as_ptr(), bytes.len(), &mut answer) };
+    // Makes it the map of an image with these limits, or the empty one, whatever it was.
+    pub fn read_image(&mut self, limits: Limits, bytes: &[u8]) -> [u64; 4] {
+        let (Limits { members, rounds }, mut answer) = (limits, UNSAID);
+        let map = &mut *self.map;
+        unsafe { declarations::read_image(map, members, rounds, bytes.as_ptr(), bytes.len(), &mut answer) };
         answer
     }
 
@@ -137,8 +149,12 @@ pub struct ByValue {
 
 impl ByValue {
     pub fn new() -> ByValue {
-        let PortMap { map } = PortMap::new();
-        ByValue { now: map.clone(), next: map }
+        ByValue::with_limits(HIGHEST).1
+    }
+
+    pub fn with_limits(limits: Limits) -> ([u64; 4], ByValue) {
+        let (answer, PortMap { map }) = PortMap::with_limits(limits);
+        (answer, ByValue { now: map.clone(), next: map })
     }
 
     pub fn call(&mut self, call: &Call, out: &mut [u64], out2: &mut [u64]) -> [u64; 4] {
@@ -169,6 +185,8 @@ impl Port for Tapes {
         // each pointer and length are those of one vector, and the five vectors do not overlap
         let ran = unsafe {
             declarations::replay(
+                tape.limits.members,
+                tape.limits.rounds,
                 tape.calls.as_ptr(),
                 tape.calls.len(),
                 tape.outs.as_mut_ptr(),

@@ -10,9 +10,9 @@ use crate::{bench, damage, images};
 pub fn ports() -> Vec<Box<dyn Port>> {
     vec![
         Box::new(Tapes),
-        Box::new(OneByOne { new: PortMap::new, call: PortMap::call }),
-        Box::new(OneByOne { new: PortMap::new, call: PortMap::call_by_number }),
-        Box::new(OneByOne { new: ByValue::new, call: ByValue::call }),
+        Box::new(OneByOne { new: PortMap::with_limits, call: PortMap::call }),
+        Box::new(OneByOne { new: PortMap::with_limits, call: PortMap::call_by_number }),
+        Box::new(OneByOne { new: ByValue::with_limits, call: ByValue::call }),
     ]
 }
 

@@ -1,8 +1,9 @@
-// The lists of calls that are run: all short ones, all arrangements with all marks, the edges, and random ones.
+// The lists of calls that are run: all short ones, all arrangements with all marks, the edges, and random ones; on maps with
+// the highest limits, and on maps with lower ones.
 
 use crate::compare::{Difference, Run, Session};
 use crate::crate_map::strikes_neighbours;
-use crate::model::{Call, Model, Op, MAX_MEMBERS, MAX_ROUNDS};
+use crate::model::{Call, Limits, Model, Op, HIGHEST, MAX_MEMBERS, MAX_ROUNDS};
 use crate::port::untouched;
 
 // A small generator of numbers (splitmix64).
@@ -56,11 +57,48 @@ fn pools(count: usize, random: &mut Random) -> [Vec<u64>; 3] {
     [colliding(count), crowded(count), spread(count, random)]
 }
 
+const fn limits(members: u64, rounds: u64) -> Limits {
+    Limits { members, rounds }
+}
+
+// Limits besides the highest: none of one or of both; so few that one of them is reached first, or both together; one as high
+// as can be; and some that are too high, so that the map has none.
+const OWN: [Limits; 12] = [
+    limits(0, 0),
+    limits(0, 5),
+    limits(5, 0),
+    limits(1, 2),
+    limits(2, 3),
+    limits(5, 5),
+    limits(8, 40),
+    limits(256, 40),
+    limits(8, 1024),
+    limits(257, 5),
+    limits(5, 1025),
+    limits(u64::MAX, u64::MAX),
+];
+
+// The highest limits half of the time; otherwise lower ones, or too high ones.
+fn random_limits(random: &mut Random) -> Limits {
+    match random.below(4) {
+        0 => random.pick(&OWN),
+        1 => limits(random.below(9) as u64, random.below(27) as u64),
+        _ => HIGHEST,
+    }
+}
+
 type Outcome = Result<(), Difference>;
 
-// Every list of up to `depth` calls made of the shapes below, over two members that collide in the port's index.
+// Every list of up to `depth` calls made of the shapes below, over two members that collide in the port's index; and shorter
+// ones on maps with other limits.
 pub fn every_short_list(session: &mut Session, depth: usize) -> Outcome {
-    extend(session, &Run::new(), &colliding(2), depth)
+    let own = OWN.iter().filter(|own| own.members.min(own.rounds) <= 2 || own.too_high());
+    let lists = own.map(|own| (*own, depth.min(4) - 1)).chain([(HIGHEST, depth)]);
+    for (limits, depth) in lists {
+        let run = session.begin(limits);
+        extend(session, &run, &colliding(2), depth)?;
+    }
+    Ok(())
 }
 
 fn extend(session: &mut Session, run: &Run, members: &[u64], depth: usize) -> Outcome {
@@ -111,7 +149,7 @@ pub fn every_arrangement(session: &mut Session, most: u32) -> Outcome {
     let members = colliding(3);
     for n in 0..=most {
         for number in 0..3usize.pow(n) {
-            let mut run = Run::new();
+            let mut run = session.begin(HIGHEST);
             for at in 0..n {
                 let k = members[number / 3usize.pow(at) % 3];
                 session.call(&mut run, Call::new(Op::Append, k, 10 + at as u64))?;
@@ -139,22 +177,44 @@ fn strike_and_empty(session: &mut Session, mut run: Run, marks: Vec<u8>, members
     session.end(&run, from)
 }
 
-// Maps with so many rounds and members at and beside the limits, and every call on each of them, at its own edges too.
+// Maps with so many rounds and members at and beside their limits, and every call on each of them, at its own edges too.
 pub fn every_edge(session: &mut Session, random: &mut Random, pool_count: usize) -> Outcome {
     let full = [1022, 1023, 1024].map(|rounds| [1, 2, 255, 256].map(|members| (rounds, members))).concat();
     let crowded = [(254, 254), (255, 255), (256, 256), (257, 256), (300, 254), (300, 255), (300, 256)];
-    let sizes = [&full[..], &crowded].concat();
+    let sizes = [&full[..], &crowded].concat().into_iter().map(|size| (HIGHEST, size));
+    // with so many rounds there is no need of more
+    let own = OWN.into_iter().filter(|own| own.rounds < HIGHEST.rounds || own.too_high());
+    let own = own.flat_map(|own| sizes_beside(own).into_iter().map(move |size| (own, size)));
+    let all: Vec<(Limits, Size)> = sizes.chain(own).collect();
     for pool in pools(MAX_MEMBERS + 1, random).iter().take(pool_count) {
-        for &(rounds, members) in &sizes {
-            let mut run = Run::new();
-            for at in 0..rounds {
-                session.call(&mut run, Call::new(Op::Append, pool[at % members], at as u64))?;
-            }
-            session.end(&run, 0)?;
-            for call in edge_calls(&run.model, pool[MAX_MEMBERS]) {
-                edge(session, run.clone(), call, pool)?;
-            }
-        }
+        all.iter().try_for_each(|(limits, size)| edges_of(session, *limits, *size, pool))?;
+    }
+    Ok(())
+}
+
+// Rounds, and members that they are of in turn.
+type Size = (usize, usize);
+
+// The sizes at and beside the limits, as far as there are such maps; of limits that are too high, some that the map has no
+// room for.
+fn sizes_beside(own: Limits) -> Vec<Size> {
+    let [members, rounds] = [own.members, own.rounds].map(|limit| if own.too_high() { 3 } else { limit as usize });
+    let of = |rounds: usize| [1, members.saturating_sub(1), members].map(|members| (rounds, members.max(1)));
+    let mut sizes = [rounds.saturating_sub(1), rounds, members.min(rounds)].map(of).concat();
+    sizes.sort_unstable();
+    sizes.dedup();
+    sizes
+}
+
+// Every call on a map of this size.
+fn edges_of(session: &mut Session, limits: Limits, (rounds, members): Size, pool: &[u64]) -> Outcome {
+    let mut run = session.begin(limits);
+    for at in 0..rounds {
+        session.call(&mut run, Call::new(Op::Append, pool[at % members], at as u64))?;
+    }
+    session.end(&run, 0)?;
+    for call in edge_calls(&run.model, pool[MAX_MEMBERS]) {
+        edge(session, run.clone(), call, pool)?;
     }
     Ok(())
 }
@@ -179,7 +239,8 @@ fn edge_calls(model: &Model, absent: u64) -> Vec<Call> {
     let (n, m) = (model.pairs.len(), model.members.len());
     let around = |len: usize| [len.saturating_sub(1), len, len + 3];
     let mut calls = Vec::new();
-    for k in [model.members[0], model.members[m - 1], absent] {
+    let ends = [model.members.first(), model.members.last()].into_iter().flatten();
+    for &k in ends.chain([&absent]) {
         calls.extend(adding.map(|op| Call::new(op, k, 7)));
         calls.extend(others.map(|op| Call::new(op, k, 0)));
         for op in [Op::InsertAll, Op::RemoveAll, Op::GetAll] {
@@ -190,15 +251,17 @@ fn edge_calls(model: &Model, absent: u64) -> Vec<Call> {
     calls.extend(around(m).map(|out| Call::lending(Op::Keys, 0, 0, out)));
     calls.extend(around(n).map(|out| Call::iter(out, n)));
     calls.extend(around(n).map(|out| Call::iter(n, out)));
-    let minimums =
-        [(m, n), (256, 1024), (m - 1, n), (m, n - 1), (m - 1, n - 1), (257, 1024), (256, 1025), (257, n - 1)];
-    calls.extend(minimums.map(|(members, rounds)| Call::new(Op::PackTo, members as u64, rounds as u64)));
-    calls.push(Call::new(Op::PackTo, u64::MAX, u64::MAX));
+    let Limits { members, rounds } = model.limits;
+    let (held, few) = ((m as u64, n as u64), (m.saturating_sub(1) as u64, n.saturating_sub(1) as u64));
+    let below = [held, (few.0, held.1), (held.0, few.1), few, (few.0, rounds + 1), (members + 1, few.1)];
+    let above = [(members, rounds), (members + 1, rounds), (members, rounds + 1), (256, 1024), (u64::MAX, u64::MAX)];
+    calls.extend(below.into_iter().chain(above).map(|(members, rounds)| Call::new(Op::PackTo, members, rounds)));
     let kept: [fn(usize, usize) -> bool; 6] =
         [|_, _| true, |_, _| false, |at, _| at > 0, |at, n| at + 1 < n, |at, _| at % 2 == 0, |at, _| at == 0];
     calls.extend(kept.map(|keep| Call::retain(marks(n, |at| keep(at, n)))));
-    calls.extend([n - 1, n + 1].map(|count| Call::retain(vec![1; count])));
-    calls.extend([0, n - 1].map(|wrong| Call::retain((0..n).map(|at| if at == wrong { 2 } else { 0 }).collect())));
+    calls.extend([n.saturating_sub(1), n + 1].map(|count| Call::retain(vec![1; count])));
+    let wrong = |wrong: usize| Call::retain((0..n).map(|at| if at == wrong { 2 } else { 0 }).collect());
+    calls.extend([0, n.saturating_sub(1)].map(wrong));
     calls
 }
 
@@ -248,7 +311,10 @@ fn random_call(random: &mut Random, model: &Model, pool: &[u64], lean: Lean) -> 
         Op::Keys => Call::lending(op, 0, 0, random_length(random, m)),
         Op::Iter => Call::iter(random_length(random, n), random_length(random, n)),
         Op::Retain => Call::retain(random_marks(random, n, lean)),
-        Op::PackTo => Call::new(op, random_minimum(random, m, MAX_MEMBERS), random_minimum(random, n, MAX_ROUNDS)),
+        Op::PackTo => {
+            let Limits { members, rounds } = model.limits;
+            Call::new(op, random_minimum(random, m as u64, members), random_minimum(random, n as u64, rounds))
+        }
         _ => Call::new(op, k, v),
     }
 }
@@ -263,14 +329,14 @@ fn random_length(random: &mut Random, len: usize) -> usize {
     }
 }
 
-fn random_minimum(random: &mut Random, held: usize, limit: usize) -> u64 {
+fn random_minimum(random: &mut Random, held: u64, limit: u64) -> u64 {
     match random.below(16) {
-        0 => held.saturating_sub(1) as u64,
-        1 => limit as u64 + 1,
+        0 => held.saturating_sub(1),
+        1 => limit + 1,
         2 => random.next(),
-        3..=5 => limit as u64,
-        6..=9 => (held + random.below(limit + 1 - held)) as u64,
-        _ => held as u64,
+        3..=5 => limit,
+        6..=9 => held + random.next() % (limit + 1 - held),
+        _ => held,
     }
 }
 
@@ -290,12 +356,12 @@ fn random_marks(random: &mut Random, n: usize, lean: Lean) -> Vec<u8> {
     marks
 }
 
-// A list that fills the map to `rounds`, stays about there for some calls, empties it, and all this again, with reads and
-// pack_to in between.
-fn random_list(session: &mut Session, random: &mut Random, pool: &[u64], rounds: usize, turns: usize) -> Outcome {
-    let mut run = Run::new();
+// A list that fills the map to `rounds`, or tries to, stays about there for some calls, empties it, and all this again, with
+// reads and pack_to in between.
+fn random_list(session: &mut Session, random: &mut Random, limits: Limits, pool: &[u64], rounds: usize) -> Outcome {
+    let mut run = session.begin(limits);
     let most = 8 * rounds + 40;
-    for _ in 0..turns {
+    for _ in 0..2 {
         let until = run.list.len() + most / 2;
         while run.model.pairs.len() < rounds && run.list.len() < until {
             one_more(session, random, &mut run, pool, Lean::Fill)?;
@@ -316,12 +382,13 @@ fn one_more(session: &mut Session, random: &mut Random, run: &mut Run, pool: &[u
     session.call(run, call)
 }
 
-// A short list of calls that the crate takes as they are: none that document 01 refuses, no retain on which the crate
-// stops, and not `taken`, which it does not have. At the end P and K are read.
-pub fn list_for_the_crate(random: &mut Random) -> Vec<Call> {
+// Limits, and a short list of calls within them that the crate takes as they are: none that document 01 refuses, no retain on
+// which the crate stops, and not `taken`, which it does not have. At the end P and K are read.
+pub fn list_for_the_crate(random: &mut Random) -> (Limits, Vec<Call>) {
     let (count, kind) = (1 + random.below(6), random.below(3));
     let pool = pools(count, random)[kind].clone();
-    let mut model = Model::default();
+    let limits = random.pick(&[HIGHEST, HIGHEST, limits(2, 3), limits(4, 8), limits(8, 40)]);
+    let mut model = Model::new(limits);
     let mut list = Vec::new();
     while list.len() < 30 {
         let lean = if list.len() < 12 { Lean::Fill } else { random.pick(&[Lean::Hold, Lean::Hold, Lean::Empty]) };
@@ -333,7 +400,7 @@ pub fn list_for_the_crate(random: &mut Random) -> Vec<Call> {
     }
     list.push(Call::iter(model.pairs.len(), model.pairs.len()));
     list.push(Call::lending(Op::Keys, 0, 0, model.members.len()));
-    list
+    (limits, list)
 }
 
 fn crate_takes(model: &Model, call: &Call) -> bool {
@@ -350,19 +417,24 @@ pub fn small_random_lists(session: &mut Session, random: &mut Random, calls: u64
         let count = 1 + random.below(8);
         let kind = random.below(3);
         let pool = pools(count, random)[kind].clone();
-        let rounds = 1 + random.below(24);
-        random_list(session, random, &pool, rounds, 2)?;
+        let (limits, rounds) = (random_limits(random), 1 + random.below(24));
+        random_list(session, random, limits, &pool, rounds)?;
     }
     Ok(())
 }
 
-// Lists that reach the limits: as many rounds, and as many members, as a map has, one less and some more.
+// Lists that reach the limits: as many rounds, and as many members, as a map may have, one less and some more.
 pub fn random_lists_at_the_limits(session: &mut Session, random: &mut Random, again: usize) -> Outcome {
     for _ in 0..again {
         for count in [1, 3, MAX_MEMBERS - 1, MAX_MEMBERS, MAX_MEMBERS + 1, 300] {
             for pool in pools(count, random) {
                 let rounds = random.pick(&[MAX_MEMBERS, 300, MAX_ROUNDS - 1, MAX_ROUNDS, MAX_ROUNDS]);
-                random_list(session, random, &pool, rounds, 2)?;
+                random_list(session, random, HIGHEST, &pool, rounds)?;
+            }
+        }
+        for own in OWN.into_iter().filter(|own| !own.too_high()) {
+            for pool in pools(own.members as usize + 1, random) {
+                random_list(session, random, own, &pool, own.rounds as usize)?;
             }
         }
     }

@@ -85,7 +85,8 @@ fn compare_all(full: bool, seed: u64) -> bool {
     println!("seed {}", seed);
     let mut session = Session::new(linked::ports());
     if let Err(first) = run_lists(&mut session, full, seed) {
-        let smallest = shrink::shrink(first, 60, |list| Session::new(linked::ports()).list(list).err());
+        let compare = |limits, list: &[_]| Session::new(linked::ports()).list(limits, list).err();
+        let smallest = shrink::shrink(first, 60, compare);
         print_difference(&smallest);
         return false;
     }
@@ -149,6 +150,8 @@ fn print_tally(session: &Session) {
     println!("{:24} {:>10} {:>10} {:>10}", "all", tally.calls(), refused, on_crate);
     let by: Vec<String> = (1..=REFUSALS).map(|number| format!("{}: {}", number, tally.refused_by[number])).collect();
     println!("refusals by number: {}", by.join(", "));
+    let own: Vec<String> = [1, 2, 6].map(|number| format!("{}: {}", number, tally.refused_by_own[number])).into();
+    println!("of these, only for the map's own limits: {}", own.join(", "));
     println!("most rounds held: {}, most members held: {}", tally.most_rounds, tally.most_members);
     println!("retains given to the crate in several passes: {}", tally.split_retains);
     println!("tapes run by the port: {}, with {} calls", tally.tapes, tally.on_port);
@@ -157,6 +160,6 @@ fn print_tally(session: &Session) {
 
 fn print_difference(difference: &Difference) {
     println!("differences: 1, with the smallest list that shows one:");
-    print!("{}", Listed(&difference.list));
+    print!("{}", Listed(difference.limits, &difference.list));
     println!("{}", difference.what);
 }

@@ -6,7 +6,7 @@ pub const MAX_ROUNDS: usize = 1024;
 pub const MAX_MEMBERS: usize = 256;
 pub const MAX_TAKEN: u64 = 4_294_967_295;
 // refusals have the numbers from 1 on
-pub const REFUSALS: usize = 14;
+pub const REFUSALS: usize = 15;
 
 // How often something was refused, by the refusals' numbers.
 pub type RefusedBy = [u64; REFUSALS + 1];
@@ -158,8 +158,32 @@ pub enum Answer {
 
 pub type Pair = (u64, u64);
 
-#[derive(Clone, Debug, Default, PartialEq, Eq)]
+// How many members and rounds a map may hold. They are printed in this order.
+#[derive(Clone, Copy, Debug, PartialEq, Eq)]
+pub struct Limits {
+    pub members: u64,
+    pub rounds: u64,
+}
+
+pub const HIGHEST: Limits = Limits { members: MAX_MEMBERS as u64, rounds: MAX_ROUNDS as u64 };
+pub const NONE: Limits = Limits { members: 0, rounds: 0 };
+
+impl Limits {
+    // May a map not have them? Refusal 15.
+    pub fn too_high(self) -> bool {
+        self.members > HIGHEST.members || self.rounds > HIGHEST.rounds
+    }
+}
+
+impl fmt::Display for Limits {
+    fn fmt(&self, f: &mut fmt::Formatter) -> fmt::Result {
+        write!(f, "limits {} and {}", self.members, self.rounds)
+    }
+}
+
+#[derive(Clone, Debug, PartialEq, Eq)]
 pub struct Model {
+    pub limits: Limits,
     // P
     pub pairs: Vec<Pair>,
     // K
@@ -169,6 +193,16 @@ pub struct Model {
 }
 
 impl Model {
+    // The answer to the making of a map with these limits, and the map: with both limits 0 where it may not have them.
+    pub fn make(limits: Limits) -> (Answer, Model) {
+        let (answer, limits) = if limits.too_high() { (Answer::Refused(15), NONE) } else { (Answer::Done, limits) };
+        (answer, Model { limits, pairs: Vec::new(), members: Vec::new(), taken: 0 })
+    }
+
+    pub fn new(limits: Limits) -> Model {
+        Model::make(limits).1
+    }
+
     pub fn present(&self, k: u64) -> bool {
         self.members.contains(&k)
     }
@@ -179,8 +213,8 @@ impl Model {
 
     // The number of the first row of the table that turns the call away.
     pub fn refusal(&self, call: &Call) -> Option<u64> {
-        let full = self.pairs.len() >= MAX_ROUNDS;
-        let crowded = self.members.len() >= MAX_MEMBERS;
+        let full = self.pairs.len() as u64 >= self.limits.rounds;
+        let crowded = self.members.len() as u64 >= self.limits.members;
         let absent = !self.present(call.k);
         let rows: Vec<(bool, u64)> = match call.op {
             Op::Append => vec![(full, 1), (absent && crowded, 2)],
@@ -200,7 +234,7 @@ impl Model {
             Op::PackTo => vec![
                 (call.k < self.members.len() as u64, 4),
                 (call.v < self.pairs.len() as u64, 5),
-                (call.k > MAX_MEMBERS as u64 || call.v > MAX_ROUNDS as u64, 6),
+                (call.k > self.limits.members || call.v > self.limits.rounds, 6),
             ],
             _ => vec![],
         };

@@ -1,11 +1,13 @@
 // Tapes of calls, and what runs them.
 
-use crate::model::{Answer, Call, Model, Op, OPS, REFUSALS};
+use crate::model::{Answer, Call, Limits, Model, Op, OPS, REFUSALS};
 
-// A tape: six numbers for each call (its number, k, v, the lengths of its out slice, its second one and its marks); all
-// out slices, second ones and marks one after the other, each kind on its own; and room for four numbers of each answer.
+// A tape: the limits of the new map that it is run on; six numbers for each call (its number, k, v, the lengths of its out
+// slice, its second one and its marks); all out slices, second ones and marks one after the other, each kind on its own; and
+// room for four numbers of each answer.
 #[derive(Clone, Debug, PartialEq, Eq)]
 pub struct Tape {
+    pub limits: Limits,
     pub calls: Vec<u64>,
     pub outs: Vec<u64>,
     pub outs2: Vec<u64>,
@@ -19,7 +21,7 @@ pub fn untouched(len: usize) -> Vec<u64> {
 }
 
 impl Tape {
-    pub fn of(list: &[Call]) -> Tape {
+    pub fn of(limits: Limits, list: &[Call]) -> Tape {
         let mut calls = Vec::with_capacity(6 * list.len());
         let mut marks = Vec::new();
         let (mut out, mut out2) = (0, 0);
@@ -32,7 +34,7 @@ impl Tape {
             out2 += call.out2;
         }
         let answers = untouched(4 * list.len());
-        Tape { calls, outs: untouched(out), outs2: untouched(out2), marks, answers }
+        Tape { limits, calls, outs: untouched(out), outs2: untouched(out2), marks, answers }
     }
 
     // The calls that a tape has: up to its end, or to the first that does not fit.
@@ -106,8 +108,8 @@ pub fn is_refusal(number: u64) -> bool {
     (1..=REFUSALS as u64).contains(&number)
 }
 
-// What runs a tape from an empty map: it fills the tape's slices and answers, leaves the rest as it is, and says how many
-// calls it ran; or what went wrong that a tape does not show.
+// What runs a tape on a new map with the tape's limits: it fills the tape's slices and answers, leaves the rest as it is, and
+// says how many calls it ran; or what went wrong that a tape does not show.
 pub trait Port {
     fn replay(&self, tape: &mut Tape) -> Result<u64, String>;
 }
@@ -117,7 +119,8 @@ pub struct ModelPort;
 
 impl Port for ModelPort {
     fn replay(&self, tape: &mut Tape) -> Result<u64, String> {
-        Ok(replay_with(tape, &mut Model::default(), |model, call, out, out2| words(model.step(call, out, out2))))
+        let mut model = Model::new(tape.limits);
+        Ok(replay_with(tape, &mut model, |model, call, out, out2| words(model.step(call, out, out2))))
     }
 }
 
@@ -141,16 +144,17 @@ pub fn replay_with<State>(
 }
 
 // Runs a tape call by call, and looks at the whole state after each: a refused call and a read leave all of it as it was,
-// also what no call shows.
+// also what no call shows. The answer to the making of the map is looked at too.
 pub struct OneByOne<State> {
-    pub new: fn() -> State,
+    pub new: fn(Limits) -> ([u64; 4], State),
     pub call: fn(&mut State, &Call, &mut [u64], &mut [u64]) -> [u64; 4],
 }
 
 impl<State: Clone + PartialEq> Port for OneByOne<State> {
     fn replay(&self, tape: &mut Tape) -> Result<u64, String> {
-        let mut wrong = None;
-        let ran = replay_with(tape, &mut (self.new)(), |state, call, out, out2| {
+        let ((made, mut state), due) = ((self.new)(tape.limits), words(Model::make(tape.limits).0));
+        let mut wrong = (made != due).then(|| format!("the making of a map with {} answers {:?}", tape.limits, made));
+        let ran = replay_with(tape, &mut state, |state, call, out, out2| {
             let before = state.clone();
             let answer = (self.call)(state, call, out, out2);
             let refused = matches!(answer_of(&answer), Some(Answer::Refused(_)));

@@ -1,10 +1,10 @@
-// A sample of the crate's answers: lists of calls as text, and what the port's program stored_lists must print of them, after those of
-// tools/edges.py. How both are written is
-// in crates/tapes/specs; what is printed is made by the crate alone. The gate compares it with what the port prints.
+// A sample of the crate's answers: lists of calls as text, and what the port's program stored_lists must print of them, after
+// those of tools/edges.py. How both are written is in crates/tapes/specs; what is printed is made by the crate alone. It has no
+// limits, so the lists stay within theirs. The gate compares it with what the port prints.
 
 use crate::crate_map::CrateMap;
 use crate::lists::{self, Random};
-use crate::model::{Call, OPS};
+use crate::model::{Call, Limits, HIGHEST, OPS};
 use crate::port::{replay_with, words, Tape};
 use std::fs;
 
@@ -16,8 +16,8 @@ const OUTPUT: &str = "crates/stored_lists/stdout";
 const FIRST: &str = "the crate's own answers";
 
 // A list on a tape, each place of a slice with a number of its own and the answers filled with nines.
-fn tape_of(list: &[Call]) -> Tape {
-    let mut tape = Tape::of(list);
+fn tape_of(limits: Limits, list: &[Call]) -> Tape {
+    let mut tape = Tape::of(limits, list);
     tape.outs = (9000..).take(tape.outs.len()).collect();
     tape.outs2 = (20000..).take(tape.outs2.len()).collect();
     tape.answers = vec![9; tape.answers.len()];
@@ -33,8 +33,10 @@ fn rows<Number: ToString>(width: usize, numbers: &[Number]) -> String {
 fn input(name: &str, tape: &Tape) -> String {
     let call = |six: &[u64]| format!("\n{}{}", OPS[six[0] as usize].1, rows(6, six).replace('\n', " "));
     format!(
-        "{};{}\n; outs{}\n; second outs{}\n; marks{}\n; answers{}\n;\n",
+        "{}; limits {} {};{}\n; outs{}\n; second outs{}\n; marks{}\n; answers{}\n;\n",
         name,
+        tape.limits.members,
+        tape.limits.rounds,
         tape.calls.chunks(6).map(call).collect::<String>(),
         rows(32, &tape.outs),
         rows(32, &tape.outs2),
@@ -55,12 +57,12 @@ fn output(name: &str, mut tape: Tape) -> String {
 // The text of all lists, what the crate gives for it, and how often each call is in them.
 fn made() -> (String, String, [usize; OPS.len()]) {
     let mut random = Random(SEED);
-    let none = tape_of(&[]);
+    let none = tape_of(HIGHEST, &[]);
     let (mut inputs, mut outputs, mut calls) = (vec![input(FIRST, &none)], vec![output(FIRST, none)], [0; OPS.len()]);
     for number in 1..=LISTS {
-        let list = lists::list_for_the_crate(&mut random);
+        let (limits, list) = lists::list_for_the_crate(&mut random);
         list.iter().for_each(|call| calls[call.op as usize] += 1);
-        let (name, tape) = (format!("list {}", number), tape_of(&list));
+        let (name, tape) = (format!("list {}", number), tape_of(limits, &list));
         inputs.push(input(&name, &tape));
         outputs.push(output(&name, tape));
     }

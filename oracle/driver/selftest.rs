@@ -7,7 +7,7 @@ use crate::endings;
 use crate::image;
 use crate::lines::{answer_chunk, Book};
 use crate::lists::{self, fnv, start_place, Random};
-use crate::model::{Answer, Call, Model, Op, MAX_ROUNDS};
+use crate::model::{Answer, Call, Limits, Model, Op, HIGHEST, MAX_ROUNDS, NONE};
 use crate::port::{answer_of, replay_with, words, ModelPort, OneByOne, Port, Tape};
 use crate::shrink::shrink;
 use crate::stops::note_panics;
@@ -17,6 +17,7 @@ pub fn run() -> bool {
     let mut checks = vec![
         ("the marked table", marked_table()),
         ("edges", edges()),
+        ("limits of a map's own", own_limits()),
         ("FNV-1a by its published values", published_hashes()),
         ("tapes decode to their lists", tapes_decode()),
         ("odd tapes end where they should", odd_tapes_end()),
@@ -28,8 +29,10 @@ pub fn run() -> bool {
     checks.extend(endings::checks());
     checks.extend(WRONG.map(|(name, step)| (name, is_found(&|| Box::new(WrongPort(step))))));
     checks.push(("wrong: a removal leaves a gap in the index", is_found(&|| Box::new(GapPort))));
-    let unseen = |call| is_found(&|| Box::new(OneByOne { new: Unseen::default, call }));
+    let unseen = |call| is_found(&|| Box::new(OneByOne { new: nothing_wrong, call }));
     checks.extend(UNSEEN.map(|(name, call)| (name, unseen(call))));
+    let made = |make| is_found(&|| Box::new(OneByOne { new: make, call: rightly }));
+    checks.extend(MAKINGS.map(|(name, make)| (name, made(make))));
     for (name, good) in &checks {
         println!("{:50} {}", name, if *good { "good" } else { "WRONG" });
     }
@@ -37,7 +40,7 @@ pub fn run() -> bool {
 }
 
 fn held(pairs: &[(u64, u64)]) -> Model {
-    let mut model = Model::default();
+    let mut model = Model::new(HIGHEST);
     for &(k, v) in pairs {
         model.step(&Call::new(Op::Append, k, v), &mut [], &mut []);
     }
@@ -92,6 +95,33 @@ fn edges() -> bool {
         && members.taken == 301
 }
 
+// A map for two members and three rounds is full against these, also after clear and pack_to; limits of 0 let nothing in;
+// limits that are too high are refused, and leave both 0.
+fn own_limits() -> bool {
+    let limits = |members, rounds| Limits { members, rounds };
+    let answers = |limits, list: &[(Op, u64, u64)]| {
+        let mut model = Model::new(limits);
+        let answer = |&(op, k, v): &(Op, u64, u64)| model.step(&Call::new(op, k, v), &mut [], &mut []);
+        list.iter().map(answer).collect::<Vec<_>>()
+    };
+    let (append, pack, no, yes) = (Op::Append, Op::PackTo, Answer::Present(false), Answer::Present(true));
+    let filled = [(append, 1, 1), (append, 2, 2), (append, 3, 3), (append, 1, 4), (append, 1, 5), (append, 3, 6)];
+    let due = [no, no, Answer::Refused(2), yes, Answer::Refused(1), Answer::Refused(1)];
+    let packed = [(pack, 2, 4), (pack, 3, 3), (pack, 1, 4), (pack, 2, 3), (append, 1, 7), (Op::Clear, 0, 0)];
+    let then = [6, 6, 4].map(Answer::Refused).into_iter().chain([Answer::Done, Answer::Refused(1), Answer::Done]);
+    let twice = [&filled[..], &packed, &filled].concat();
+    let made = |members, rounds| {
+        let (answer, model) = Model::make(limits(members, rounds));
+        (answer, model.limits)
+    };
+    answers(limits(2, 3), &twice) == due.into_iter().chain(then).chain(due).collect::<Vec<_>>()
+        && answers(NONE, &[(append, 1, 1), (pack, 0, 0), (pack, 0, 1)])
+            == [Answer::Refused(1), Answer::Done, Answer::Refused(6)]
+        && answers(limits(0, 5), &[(append, 1, 1), (Op::Insert, 1, 1)]) == [Answer::Refused(2); 2]
+        && made(256, 1024) == (Answer::Done, HIGHEST)
+        && [(257, 0), (0, 1025), (u64::MAX, u64::MAX)].iter().all(|&(m, r)| made(m, r) == (Answer::Refused(15), NONE))
+}
+
 fn published_hashes() -> bool {
     fnv(b"") == 0xcbf29ce484222325 && fnv(b"a") == 0xaf63dc4c8601ec8c && fnv(b"foobar") == 0x85944171f73967e8
 }
@@ -112,7 +142,7 @@ pub fn sample() -> Vec<Call> {
 
 fn tapes_decode() -> bool {
     let list = sample();
-    let mut tape = Tape::of(&list);
+    let mut tape = Tape::of(HIGHEST, &list);
     let same = tape.decode() == list;
     let ran = ModelPort.replay(&mut tape);
     let due = [
@@ -126,7 +156,7 @@ fn tapes_decode() -> bool {
         Answer::Count(0),
         Answer::Count(4),
     ];
-    let untouched = Tape::of(&list);
+    let untouched = Tape::of(HIGHEST, &list);
     same && ran == Ok(due.len() as u64)
         && tape.answers == due.map(words).concat()
         && due.iter().all(|&answer| answer_of(&words(answer)) == Some(answer))
@@ -139,7 +169,7 @@ fn tapes_decode() -> bool {
 // Tapes that break off: by a part of a call, a call that there is none of, slices or marks that are not there or that the
 // call has no use for, and too few places for answers.
 pub fn odd_tapes() -> Vec<Tape> {
-    let whole = Tape::of(&sample());
+    let whole = Tape::of(HIGHEST, &sample());
     let changed = |at: usize, number: u64| {
         let mut tape = whole.clone();
         tape.calls[at] = number;
@@ -243,24 +273,32 @@ fn images_by_hand() -> bool {
             .flatten()
             .collect();
     let three_members = [&[3, 0, 0, 0, 3, 0, 0, 0], &hand[8..]].concat();
-    let refused: [(&[u8], u64); 6] = [
-        (&[255; 7], 11),
-        (&[1, 4, 0, 0, 0, 0, 0, 0], 12),
-        (&[0, 0, 0, 0, 1, 1, 0, 0], 12),
-        (&[0, 4, 0, 0, 0, 1, 0, 0], 13),
-        (&hand[..hand.len() - 1], 13),
-        (&three_members, 14),
+    let (just, limits) = (Limits { members: 2, rounds: 3 }, |members, rounds| Limits { members, rounds });
+    let refused: [(Limits, &[u8], u64); 12] = [
+        (limits(257, 0), &[255; 7], 15),
+        (limits(0, 1025), &hand, 15),
+        (HIGHEST, &[255; 7], 11),
+        (HIGHEST, &[1, 4, 0, 0, 0, 0, 0, 0], 12),
+        (HIGHEST, &[0, 0, 0, 0, 1, 1, 0, 0], 12),
+        (limits(1, 3), &hand, 12),
+        (limits(2, 2), &hand[..9], 12),
+        (HIGHEST, &[0, 4, 0, 0, 0, 1, 0, 0], 13),
+        (just, &hand[..hand.len() - 1], 13),
+        (HIGHEST, &three_members, 14),
+        (just, &[1, 0, 0, 0, 0, 0, 0, 0, 7, 0, 0, 0, 0, 0, 0, 0, 1, 0, 0, 0, 0, 0, 0, 0], 14),
+        (NONE, &[1, 0, 0, 0, 0, 0, 0, 0], 12),
     ];
     image::write(&model) == hand
-        && image::read(&hand) == Ok(model)
-        && image::read(&[0; 8]) == Ok(Model::default())
-        && refused.iter().all(|(bytes, number)| image::read(bytes) == Err(*number))
+        && image::read(HIGHEST, &hand).as_ref() == Ok(&model)
+        && image::read(just, &hand) == Ok(Model { limits: just, ..model })
+        && image::read(NONE, &[0; 8]) == Ok(Model::new(NONE))
+        && refused.iter().all(|(limits, bytes, number)| image::read(*limits, bytes) == Err(*number))
 }
 
 pub type Step = fn(&mut Model, &Call, &mut [u64], &mut [u64]) -> Answer;
 
 // The model with one fault each.
-const WRONG: [(&str, Step); 10] = [
+const WRONG: [(&str, Step); 14] = [
     ("wrong: insert_all moves its member to the back", |model, call, out, out2| {
         let answer = model.step(call, out, out2);
         if call.op == Op::InsertAll && !matches!(answer, Answer::Refused(_)) {
@@ -326,13 +364,40 @@ const WRONG: [(&str, Step); 10] = [
         }
         answer
     }),
+    ("wrong: append is full against 1,024 alone", |model, call, out, out2| {
+        let limits = Limits { rounds: HIGHEST.rounds, ..model.limits };
+        within(if call.op == Op::Append { limits } else { model.limits }, model, call, out, out2)
+    }),
+    ("wrong: vacant insert is crowded against 256 alone", |model, call, out, out2| {
+        let limits = Limits { members: HIGHEST.members, ..model.limits };
+        within(if call.op == Op::VacantInsert { limits } else { model.limits }, model, call, out, out2)
+    }),
+    ("wrong: pack_to is held to the highest limits", |model, call, out, out2| {
+        within(if call.op == Op::PackTo { HIGHEST } else { model.limits }, model, call, out, out2)
+    }),
+    ("wrong: clear forgets the limits", |model, call, out, out2| {
+        let answer = model.step(call, out, out2);
+        if call.op == Op::Clear {
+            model.limits = HIGHEST;
+        }
+        answer
+    }),
 ];
+
+// One call on the model as if it had these limits.
+fn within(limits: Limits, model: &mut Model, call: &Call, out: &mut [u64], out2: &mut [u64]) -> Answer {
+    let own = std::mem::replace(&mut model.limits, limits);
+    let answer = model.step(call, out, out2);
+    model.limits = own;
+    answer
+}
 
 pub struct WrongPort(pub Step);
 
 impl Port for WrongPort {
     fn replay(&self, tape: &mut Tape) -> Result<u64, String> {
-        Ok(replay_with(tape, &mut Model::default(), |model, call, out, out2| words((self.0)(model, call, out, out2))))
+        let mut model = Model::new(tape.limits);
+        Ok(replay_with(tape, &mut model, |model, call, out, out2| words((self.0)(model, call, out, out2))))
     }
 }
 
@@ -373,7 +438,7 @@ impl Indexed {
 
 impl Port for GapPort {
     fn replay(&self, tape: &mut Tape) -> Result<u64, String> {
-        let mut indexed = Indexed { model: Model::default(), index: vec![None; 512] };
+        let mut indexed = Indexed { model: Model::new(tape.limits), index: vec![None; 512] };
         Ok(replay_with(tape, &mut indexed, |indexed, call, out, out2| words(indexed.step(call, out, out2))))
     }
 }
@@ -381,7 +446,30 @@ impl Port for GapPort {
 // The model beside a number that no call shows, which changes where nothing may.
 type Unseen = (Model, u64);
 
-const UNSEEN: [(&str, fn(&mut Unseen, &Call, &mut [u64], &mut [u64]) -> [u64; 4]); 2] = [
+type Make = fn(Limits) -> ([u64; 4], Unseen);
+type UnseenCall = fn(&mut Unseen, &Call, &mut [u64], &mut [u64]) -> [u64; 4];
+
+fn nothing_wrong(limits: Limits) -> ([u64; 4], Unseen) {
+    let (answer, model) = Model::make(limits);
+    (words(answer), (model, 0))
+}
+
+fn rightly((model, _): &mut Unseen, call: &Call, out: &mut [u64], out2: &mut [u64]) -> [u64; 4] {
+    words(model.step(call, out, out2))
+}
+
+const MAKINGS: [(&str, Make); 2] = [
+    ("wrong: a making with too high limits says done", |limits| {
+        let (_, unseen) = nothing_wrong(limits);
+        (words(Answer::Done), unseen)
+    }),
+    ("wrong: a refused making leaves the highest limits", |limits| {
+        let (answer, (model, number)) = nothing_wrong(limits);
+        (answer, (Model { limits: if limits.too_high() { HIGHEST } else { limits }, ..model }, number))
+    }),
+];
+
+const UNSEEN: [(&str, UnseenCall); 2] = [
     ("wrong: a refused call changes what none shows", |(model, number), call, out, out2| {
         let answer = model.step(call, out, out2);
         *number += matches!(answer, Answer::Refused(_)) as u64;
@@ -395,10 +483,10 @@ const UNSEEN: [(&str, fn(&mut Unseen, &Call, &mut [u64], &mut [u64]) -> [u64; 4]
 
 // Does the comparison find a port that is wrong, and shrink the list that shows it?
 fn is_found(wrong: &dyn Fn() -> Box<dyn Port>) -> bool {
-    let compare = |list: &[Call]| Session::new(vec![wrong()]).list(list).err();
+    let compare = |limits, list: &[Call]| Session::new(vec![wrong()]).list(limits, list).err();
     find(Session::new(vec![wrong()])).map_or(false, |first| {
-        let smallest = shrink(first, 2, compare).list;
-        compare(&smallest).is_some() && (smallest.len() <= 4 || smallest.len() >= MAX_ROUNDS)
+        let Difference { limits, list, .. } = shrink(first, 2, compare);
+        compare(limits, &list).is_some() && (list.len() <= 4 || list.len() >= MAX_ROUNDS)
     })
 }
 

@@ -1,13 +1,13 @@
 // Makes a failing list smaller by dropping calls, marks and places of slices.
 
 use crate::compare::Difference;
-use crate::model::Call;
+use crate::model::{Call, Limits};
 use std::time::{Duration, Instant};
 
-// The smallest failing list found in so many seconds.
-pub fn shrink(first: Difference, seconds: u64, fails: impl Fn(&[Call]) -> Option<Difference>) -> Difference {
-    let until = Instant::now() + Duration::from_secs(seconds);
-    let fails = |list: &[Call]| if Instant::now() < until { fails(list) } else { None };
+// The smallest failing list found in so many seconds, on a map with the limits of the first.
+pub fn shrink(first: Difference, seconds: u64, fails: impl Fn(Limits, &[Call]) -> Option<Difference>) -> Difference {
+    let (limits, until) = (first.limits, Instant::now() + Duration::from_secs(seconds));
+    let fails = |list: &[Call]| if Instant::now() < until { fails(limits, list) } else { None };
     let mut best = first;
     while let Some(less) = without_calls(&best.list, &fails).or_else(|| with_a_narrower_call(&best.list, &fails)) {
         best = less;
