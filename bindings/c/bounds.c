@@ -39,15 +39,20 @@ static size_t filled(size_t from, size_t to) {
     return count;
 }
 
-/* The empty map is written up to the end of its last field, save for four bytes between two arrays, which no field has. */
-static void make(void) {
+/* The empty map, which a refused making leaves too, is written up to the end of its last field, save for four bytes between
+ * two arrays, which no field has. */
+static void make(uint64_t members_limit, uint64_t rounds_limit, uint64_t answer) {
     const size_t end = offsetof(om_map, taken) + sizeof room.map.taken;
     memset(&room, FILL, sizeof room);
-    om_map_new(&room.map);
+    expect(om_map_new(&room.map, members_limit, rounds_limit).answer[0] == answer, "om_map_new answers something else");
     expect_untouched("om_map_new wrote beside the map");
     expect(filled(0, end) == 4, "om_map_new did not write all of the map");
     expect(filled(offsetof(om_map, taken), end) == 0, "om_map_new did not write the last field");
     expect(filled(end, sizeof room.map) == sizeof room.map - end, "om_map_new wrote past the last field");
+}
+
+static uint64_t read_into(uint64_t rounds_limit, const uint8_t *image, size_t len) {
+    return om_map_read_image(&room.map, OM_MEMBERS, rounds_limit, image, len).answer[0];
 }
 
 static void fill_and_pack(void) {
@@ -62,13 +67,15 @@ static void fill_and_pack(void) {
     expect_untouched("a call wrote beside a full map");
     om_said written = om_map_write_image(&room.map, image, OM_IMAGE);
     om_map_clear(&room.map);
-    expect(om_map_read_image(&room.map, image, written.answer[1]).answer[0] == OM_DONE, "the image is not read");
+    expect(read_into(1, image, written.answer[1]) == OM_REFUSED, "the image is read into too low limits");
+    expect(read_into(OM_ROUNDS, image, written.answer[1]) == OM_DONE, "the image is not read");
     expect_untouched("om_map_clear or om_map_read_image wrote beside the map");
     expect(om_map_well_linked(&room.map) == 1, "the map is not well-linked");
 }
 
 int main(void) {
-    make();
+    make(OM_MEMBERS + 1, OM_ROUNDS, OM_REFUSED);
+    make(OM_MEMBERS, OM_ROUNDS, OM_DONE);
     fill_and_pack();
     return failures != 0;
 }

@@ -1,4 +1,5 @@
-/* The map from C: posts rounds, strikes some, lists them, saves an image, reads it back and checks a record. */
+/* The map from C: posts rounds, strikes some, lists them, saves an image, reads it back, checks a record, and meets the
+ * limits of a small club. */
 #include "prelgammo.h"
 
 #include <inttypes.h>
@@ -48,9 +49,10 @@ static void write_and_read(void) {
     say("write_image", written);
     say("clear", om_map_clear(&club));
     list();
-    say("read_image", om_map_read_image(&club, image, written.answer[1]));
+    say("read_image", om_map_read_image(&club, OM_MEMBERS, OM_ROUNDS, image, written.answer[1]));
     list();
-    say("read_image of one byte less", om_map_read_image(&other, image, written.answer[1] - 1));
+    say("read_image of one byte less", om_map_read_image(&other, OM_MEMBERS, OM_ROUNDS, image, written.answer[1] - 1));
+    say("read_image for 1 member", om_map_read_image(&other, 1, 2, image, written.answer[1]));
     say("taken", om_map_taken(&club));
 }
 
@@ -61,10 +63,24 @@ static void check(void) {
     printf("well_linked, damaged: %" PRIu64 "\n", om_map_well_linked(&record));
 }
 
+/* One that pays for a member and two rounds. */
+static void small_club(void) {
+    static om_map small;
+    say("new 257 2", om_map_new(&small, OM_MEMBERS + 1, 2));
+    say("new 1 2", om_map_new(&small, 1, 2));
+    say("append 7 10", om_map_append(&small, 7, 10));
+    say("append 9 20", om_map_append(&small, 9, 20));
+    say("append 7 11", om_map_append(&small, 7, 11));
+    say("append 7 12", om_map_append(&small, 7, 12));
+    say("clear", om_map_clear(&small));
+    say("pack_to 2 2", om_map_pack_to(&small, 2, 2));
+}
+
 int main(void) {
-    om_map_new(&club);
+    say("new", om_map_new(&club, OM_MEMBERS, OM_ROUNDS));
     post_and_strike();
     write_and_read();
     check();
+    small_club();
     return 0;
 }

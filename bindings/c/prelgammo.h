@@ -5,6 +5,9 @@
  * these two made it and only calls of this header have changed it since, or that om_map_well_linked says 1 of it. A copy
  * of a well-linked map is one too. Threads may read one map together; a call that may change it has it alone.
  *
+ * A map has two limits of its own, of members and of rounds, with which it was made or read and which every call keeps. It
+ * is full where it holds as many: refusals 1, 2, 6 and 12 speak of its limits. A limit may be 0.
+ *
  * Stack: om_map_read_image takes 33 KB of it, om_map_write_image 17 KB, om_map_pack_to and om_map_call 13 KB, each other
  * function of a map less than 3 KB; replay takes 38 KB, and om_turn, which has the map by value, 101 KB, of which 48 KB are
  * the caller's two copies. stack.c measures it and holds it to OM_STACK and OM_STACK_BY_VALUE.
@@ -14,7 +17,8 @@
  * written is kept.
  *
  * The comments below name the refusals of each call, in the order of its checks; a refused call leaves the map as it was
- * and writes to no slice. The numbers and what they mean are in document 01's table. */
+ * and writes to no slice. The numbers and what they mean are in document 01's table; 15 is of document 02, request 1: the
+ * limit of members is above OM_MEMBERS, or that of rounds above OM_ROUNDS. */
 #ifndef PRELGAMMO_H
 #define PRELGAMMO_H
 
@@ -31,8 +35,8 @@ extern "C" {
 #endif
 
 enum {
-    OM_MEMBERS = 256,                 /* the most members that a map holds */
-    OM_ROUNDS = 1024,                 /* the most rounds */
+    OM_MEMBERS = 256,                 /* the highest limit of members */
+    OM_ROUNDS = 1024,                 /* the highest limit of rounds */
     OM_IMAGE = 8 + 16 * OM_ROUNDS,    /* the bytes of the largest image */
     OM_STACK = 48 * 1024,             /* the bytes of stack within which the functions of a map and replay stay */
     OM_STACK_BY_VALUE = 128 * 1024    /* and om_turn */
@@ -58,8 +62,9 @@ typedef struct om_said {
     uint64_t answer[4];
 } om_said;
 
-/* Makes m the empty map, whatever it was. */
-static inline void om_map_new(om_map *m);
+/* Makes m the empty map with these limits, whatever it was: OM_DONE. Refused by 15, with the empty map whose limits are
+ * both 0. */
+static inline om_said om_map_new(om_map *m, uint64_t members_limit, uint64_t rounds_limit);
 
 /* 1 where m is well-linked, else 0. Takes any om_map. */
 static inline uint64_t om_map_well_linked(const om_map *m);
@@ -148,12 +153,14 @@ static inline om_said om_map_call(om_map *m, uint64_t op, uint64_t k, uint64_t v
 /* Writes the image of the map to out: OM_COUNT, its bytes. Refused by 3. */
 static inline om_said om_map_write_image(const om_map *m, uint8_t *out, size_t out_len);
 
-/* Makes m the map of an image, whatever it was: OM_DONE. Refused by 11 to 14, with the empty map. */
-static inline om_said om_map_read_image(om_map *m, const uint8_t *bytes, size_t bytes_len);
+/* Makes m the map of an image with these limits, whatever it was: OM_DONE. Refused by 15, with the empty map whose limits
+ * are both 0; then by 11 to 14, with the empty map that has these limits. */
+static inline om_said om_map_read_image(om_map *m, uint64_t members_limit, uint64_t rounds_limit, const uint8_t *bytes,
+                                        size_t bytes_len);
 
 /* Declares the library's own functions: om_append and so on, which take the map's arrays one by one and which those above
- * call; om_turn, which is om_map_call with the map by value; and replay, which runs a list of calls from an empty map and
- * gives back how many it ran (oracle/README.md says how the list is laid out). */
+ * call; om_turn, which is om_map_call with the map by value; and replay, which runs a list of calls on the map that om_new
+ * makes with its limits, and gives back how many it ran (oracle/README.md says how the list is laid out). */
 #include "prelgammo_declarations.h"
 
 #ifdef __cplusplus

@@ -16,7 +16,7 @@ static uint8_t marks[OM_ROUNDS], image[OM_IMAGE];
 static size_t image_len;
 
 static void nothing(void) {}
-static void new(void) { om_map_new(&map); }
+static void new(void) { om_map_new(&map, OM_MEMBERS, OM_ROUNDS); }
 static void well_linked(void) { om_map_well_linked(&map); }
 static void append(void) { om_map_append(&map, 7, 1); }
 static void insert(void) { om_map_insert(&map, 7, 1); }
@@ -44,19 +44,19 @@ static void iter(void) { om_map_iter(&map, out, OM_ROUNDS, out2, OM_ROUNDS); }
 static void taken(void) { om_map_taken(&map); }
 static void call(void) { om_map_call(&map, 13, OM_MEMBERS, OM_ROUNDS, out, OM_ROUNDS, out2, OM_ROUNDS, marks, OM_ROUNDS); }
 static void write_image(void) { om_map_write_image(&map, image, OM_IMAGE); }
-static void read_image(void) { om_map_read_image(&map, image, image_len); }
+static void read_image(void) { om_map_read_image(&map, OM_MEMBERS, OM_ROUNDS, image, image_len); }
 static void turn(void) {
     after = om_turn(map, 13, OM_MEMBERS, OM_ROUNDS, out, OM_ROUNDS, out2, OM_ROUNDS, marks, OM_ROUNDS, answer);
 }
 static void play(void) {
     static const uint64_t calls[] = {0, 7, 1, 0, 0, 0, 13, 256, 1024, 0, 0, 0};
     static uint64_t answers[8];
-    replay(calls, 12, out, 0, out2, 0, marks, 0, answers, 8);
+    replay(OM_MEMBERS, OM_ROUNDS, calls, 12, out, 0, out2, 0, marks, 0, answers, 8);
 }
 
 /* A map that is nearly full, and its image. */
 static void fill(void) {
-    om_map_new(&map);
+    om_map_new(&map, OM_MEMBERS, OM_ROUNDS);
     for (uint64_t i = 0; i < OM_ROUNDS - 4; i++) {
         om_map_append(&map, i % (OM_MEMBERS - 1), i);
         marks[i] = i % 3 > 0;

@@ -41,13 +41,28 @@ fn told(call: impl FnOnce(*mut [u64; 4])) -> [u64; 4] {
 #[test]
 fn the_empty_map_is_every_field_and_no_more() {
     let mut room = Room::new();
-    unsafe { declarations::new(room.record()) };
+    told(|answer| unsafe { declarations::new(room.record(), 256, 1024, answer) });
     let bytes = room.bytes();
     let kept: Vec<usize> = (0..bytes.len()).filter(|&at| bytes[at] == FILL).collect();
-    // what C leaves between two fields and after the last
+    // what C leaves between two fields, and after the last one where it leaves any
     let gap = offset_of!(Record, previous_key) + size_of::<[u16; 257]>()..offset_of!(Record, values);
     let end = offset_of!(Record, taken) + size_of::<u32>()..size_of::<Record>();
     assert_eq!(kept, gap.chain(end).collect::<Vec<_>>());
+}
+
+// A refused making leaves a whole map too.
+#[test]
+fn a_refused_making_is_every_field() {
+    let made = |members, rounds| {
+        let mut room = Room::new();
+        let answer = told(|answer| unsafe { declarations::new(room.record(), members, rounds, answer) });
+        (answer, room.bytes())
+    };
+    let (done, none) = made(0, 0);
+    assert_eq!(done, [2, 0, 0, 0]);
+    for (members, rounds) in [(257, 0), (0, 1025), (u64::MAX, u64::MAX)] {
+        assert_eq!(made(members, rounds), ([0, 15, 0, 0], none.clone()));
+    }
 }
 
 #[test]
@@ -55,7 +70,7 @@ fn calls_on_a_full_map_stay_within_it() {
     let mut room = Room::new();
     let record = room.record();
     unsafe {
-        declarations::new(record);
+        told(|answer| declarations::new(record, 256, 1024, answer));
         for at in 0..1026 {
             told(|answer| declarations::append(record, at % 256, u64::MAX - at, answer));
         }
@@ -74,9 +89,9 @@ fn reading_an_image_stays_within_the_record() {
     let map = crate::ListOrderedMultimap::from_pairs(&[(7, 10); 1024]).unwrap();
     let (image, mut room) = (map.to_bytes(), Room::new());
     let record = room.record();
-    // whole, and cut off
-    for len in [image.len(), image.len() - 1] {
-        told(|answer| unsafe { declarations::read_image(record, image.as_ptr(), len, answer) });
+    // whole, cut off, and for limits that do not hold it or are too high
+    for (len, rounds) in [(image.len(), 1024), (image.len() - 1, 1024), (image.len(), 1023), (image.len(), 1025)] {
+        told(|answer| unsafe { declarations::read_image(record, 256, rounds, image.as_ptr(), len, answer) });
         room.bytes();
     }
 }

@@ -3,9 +3,10 @@ use std::fmt;
 
 /// Why a call was refused. The map is then as it was before the call.
 ///
-/// These are all refusals of document 01, with its numbers and words. The methods of this package give 1, 2, 4, 5, 6
-/// and 11 to 14. The others have no occasion here: slices are always long enough, `retain` makes its own marks, and an
-/// [`OccupiedEntry`](crate::OccupiedEntry) or a [`VacantEntry`](crate::VacantEntry) is only there where it fits.
+/// These are all refusals of document 01 and, by a map's own limits, of request 1 in document 02, with their numbers. The
+/// methods of this package give 1, 2, 4, 5, 6 and 11 to 15. The others have no occasion here: slices are always long
+/// enough, `retain` makes its own marks, and an [`OccupiedEntry`](crate::OccupiedEntry) or a
+/// [`VacantEntry`](crate::VacantEntry) is only there where it fits.
 ///
 /// ```
 /// use prelgammo::{ListOrderedMultimap, Refused};
@@ -22,9 +23,9 @@ use std::fmt;
 #[derive(Clone, Copy, Debug, PartialEq, Eq, Hash)]
 #[non_exhaustive]
 pub enum Refused {
-    /// 1: 1,024 rounds held.
+    /// 1: as many rounds held as the map's limit.
     Full = 1,
-    /// 2: 256 members held.
+    /// 2: as many members held as the map's limit.
     Crowded = 2,
     /// 3: a slice to be written is shorter than the result.
     Short = 3,
@@ -32,7 +33,7 @@ pub enum Refused {
     MembersBelow = 4,
     /// 5: rounds' minimum below rounds held.
     RoundsBelow = 5,
-    /// 6: members' minimum above 256, or rounds' above 1,024.
+    /// 6: members' minimum above the map's limit of members, or rounds' above that of rounds.
     Above = 6,
     /// 7: marks are not as many as the rounds held.
     MarksCount = 7,
@@ -44,34 +45,37 @@ pub enum Refused {
     Present = 10,
     /// 11: fewer than 8 bytes.
     TooShort = 11,
-    /// 12: n above 1,024 or m above 256.
+    /// 12: n above the limit of rounds or m above the limit of members.
     TooMany = 12,
     /// 13: length is not 8 + 16 × n.
     WrongLength = 13,
     /// 14: m is not the number of distinct members.
     WrongMembers = 14,
+    /// 15: members' limit above 256, or rounds' above 1,024.
+    LimitsAbove = 15,
 }
 
 // In the order of their numbers.
-const ALL: [(Refused, &str); 14] = [
-    (Refused::Full, "1,024 rounds held"),
-    (Refused::Crowded, "256 members held"),
+const ALL: [(Refused, &str); 15] = [
+    (Refused::Full, "as many rounds held as the map's limit"),
+    (Refused::Crowded, "as many members held as the map's limit"),
     (Refused::Short, "a slice to be written is shorter than the result"),
     (Refused::MembersBelow, "members' minimum below members held"),
     (Refused::RoundsBelow, "rounds' minimum below rounds held"),
-    (Refused::Above, "members' minimum above 256, or rounds' above 1,024"),
+    (Refused::Above, "members' minimum above the map's limit of members, or rounds' above that of rounds"),
     (Refused::MarksCount, "marks are not as many as the rounds held"),
     (Refused::MarkValue, "a mark is neither 0 nor 1"),
     (Refused::Absent, "member absent"),
     (Refused::Present, "member present"),
     (Refused::TooShort, "fewer than 8 bytes"),
-    (Refused::TooMany, "n above 1,024 or m above 256"),
+    (Refused::TooMany, "n above the limit of rounds or m above the limit of members"),
     (Refused::WrongLength, "length is not 8 + 16 × n"),
     (Refused::WrongMembers, "m is not the number of distinct members"),
+    (Refused::LimitsAbove, "members' limit above 256, or rounds' above 1,024"),
 ];
 
 impl Refused {
-    /// The number of document 01's table.
+    /// The number in the documents.
     pub fn number(self) -> u64 {
         self as u64
     }

@@ -48,16 +48,20 @@ fn written<T: Copy>(mut out: Vec<T>, count: u64) -> Vec<T> {
 }
 
 impl Map {
-    pub fn new() -> Map {
+    // The empty map with these limits, or with both 0 where the answer is a refusal.
+    pub fn new(members: u64, rounds: u64) -> (Map, Answer) {
+        let mut answer = [0; 4];
         // om_new writes every array whole
-        Map { record: made(|record| unsafe { declarations::new(record) }) }
+        let record = made(|record| unsafe { declarations::new(record, members, rounds, &mut answer) });
+        (Map { record }, Answer(answer))
     }
 
-    // The map of an image, or the empty one where the answer is a refusal.
-    pub fn read_image(bytes: &[u8]) -> (Map, Answer) {
+    // The map of an image with these limits, or the empty one where the answer is a refusal.
+    pub fn read_image(members: u64, rounds: u64, bytes: &[u8]) -> (Map, Answer) {
         let (room, len, mut answer) = (bytes.as_ptr(), bytes.len(), [0; 4]);
         // om_read_image does so by om_new, before all else
-        let record = made(|record| unsafe { declarations::read_image(record, room, len, &mut answer) });
+        let record =
+            made(|record| unsafe { declarations::read_image(record, members, rounds, room, len, &mut answer) });
         (Map { record }, Answer(answer))
     }
 

@@ -2,7 +2,7 @@
 // each; every number lowest byte first.
 
 use crate::ffi::Map;
-use crate::{ListOrderedMultimap, Refused, ROUNDS};
+use crate::{ListOrderedMultimap, Refused, MEMBERS, ROUNDS};
 use std::fs::{self, File, OpenOptions, Permissions};
 use std::io::{self, Read, Write};
 use std::path::{Path, PathBuf};
@@ -15,8 +15,8 @@ const MOST_BYTES: usize = 8 + 16 * ROUNDS;
 const MOST_LINKS: usize = 40;
 
 impl ListOrderedMultimap {
-    /// The image of the map: its pairs in order. What else there is of a map is not in it, namely the order of the
-    /// keys, where it is not that of their first values, and [`taken`](ListOrderedMultimap::taken).
+    /// The image of the map: its pairs in order. What else there is of a map is not in it, namely its limits, the order of
+    /// the keys, where it is not that of their first values, and [`taken`](ListOrderedMultimap::taken).
     ///
     /// ```
     /// use prelgammo::ListOrderedMultimap;
@@ -32,8 +32,8 @@ impl ListOrderedMultimap {
         self.map.write_image()
     }
 
-    /// The map of an image: the same pairs, the keys in the order of their first values, and as many values taken in as
-    /// it has. Refused by 11 to 14.
+    /// The map of an image, with the highest limits: the same pairs, the keys in the order of their first values, and as
+    /// many values taken in as it has. Refused by 11 to 14.
     ///
     /// ```
     /// use prelgammo::{ListOrderedMultimap, Refused};
@@ -47,7 +47,23 @@ impl ListOrderedMultimap {
     /// # Ok::<(), prelgammo::Refused>(())
     /// ```
     pub fn from_bytes(bytes: &[u8]) -> Result<ListOrderedMultimap, Refused> {
-        let (map, answer) = Map::read_image(bytes);
+        ListOrderedMultimap::from_bytes_with_limits(bytes, MEMBERS, ROUNDS)
+    }
+
+    /// As [`from_bytes`](ListOrderedMultimap::from_bytes), for a map with limits of its own
+    /// ([`with_limits`](ListOrderedMultimap::with_limits)). Refused by 15, then by 11 to 14.
+    ///
+    /// ```
+    /// use prelgammo::{ListOrderedMultimap, Refused};
+    ///
+    /// let bytes = ListOrderedMultimap::from_pairs(&[(7, 10), (7, 11)])?.to_bytes();
+    /// let mut map = ListOrderedMultimap::from_bytes_with_limits(&bytes, 1, 2)?;
+    /// assert_eq!(map.append(7, 12), Err(Refused::Full));
+    /// assert_eq!(ListOrderedMultimap::from_bytes_with_limits(&bytes, 1, 1), Err(Refused::TooMany));
+    /// # Ok::<(), prelgammo::Refused>(())
+    /// ```
+    pub fn from_bytes_with_limits(bytes: &[u8], members: usize, rounds: usize) -> Result<ListOrderedMultimap, Refused> {
+        let (map, answer) = Map::read_image(members as u64, rounds as u64, bytes);
         answer.accepted()?.done();
         Ok(ListOrderedMultimap { map })
     }
@@ -88,8 +104,8 @@ impl ListOrderedMultimap {
         folder.sync_all()
     }
 
-    /// Reads a map from a file with its image. A refusal comes as an error of the kind `InvalidData`, with the
-    /// [`Refused`] inside.
+    /// Reads a map from a file with its image, with the highest limits. A refusal comes as an error of the kind
+    /// `InvalidData`, with the [`Refused`] inside.
     ///
     /// ```
     /// use prelgammo::{ListOrderedMultimap, Refused};
@@ -102,10 +118,28 @@ impl ListOrderedMultimap {
     /// # Ok::<(), std::io::Error>(())
     /// ```
     pub fn load(path: impl AsRef<Path>) -> io::Result<ListOrderedMultimap> {
+        ListOrderedMultimap::load_with_limits(path, MEMBERS, ROUNDS)
+    }
+
+    /// As [`load`](ListOrderedMultimap::load), for a map with limits of its own
+    /// ([`with_limits`](ListOrderedMultimap::with_limits)).
+    ///
+    /// ```
+    /// use prelgammo::{ListOrderedMultimap, Refused};
+    ///
+    /// let path = std::env::temp_dir().join(format!("prelgammo-limits-{}", std::process::id()));
+    /// ListOrderedMultimap::from_pairs(&[(7, 10), (9, 20)]).unwrap().save(&path)?;
+    /// let mut map = ListOrderedMultimap::load_with_limits(&path, 2, 3)?;
+    /// assert_eq!(map.append(4, 30), Err(Refused::Crowded));
+    /// # std::fs::remove_file(&path)?;
+    /// # Ok::<(), std::io::Error>(())
+    /// ```
+    pub fn load_with_limits(path: impl AsRef<Path>, members: usize, rounds: usize) -> io::Result<ListOrderedMultimap> {
         // One byte more than an image can have is refused as any longer file is.
         let mut bytes = Vec::new();
         File::open(path)?.take(MOST_BYTES as u64 + 1).read_to_end(&mut bytes)?;
-        ListOrderedMultimap::from_bytes(&bytes).map_err(|refused| io::Error::new(io::ErrorKind::InvalidData, refused))
+        let read = ListOrderedMultimap::from_bytes_with_limits(&bytes, members, rounds);
+        read.map_err(|refused| io::Error::new(io::ErrorKind::InvalidData, refused))
     }
 }
 

@@ -24,8 +24,10 @@
 //!
 //! # Limits and refusals
 //!
-//! A map holds at most [`MEMBERS`] keys and [`ROUNDS`] values. A call that cannot be done gives [`Refused`] with a
-//! number of document 01, and leaves the map as it was. A method that is never refused here gives its answer plainly.
+//! A map holds at most [`MEMBERS`] keys and [`ROUNDS`] values, or fewer where it is made with limits of its own
+//! ([`ListOrderedMultimap::with_limits`]). A call that cannot be done gives [`Refused`] with a number of document 01 or of
+//! the requests after it ("document 02"), and leaves the map as it was. A method that is never refused here gives its
+//! answer plainly.
 //!
 //! The crate's calls are never refused, so that its programs often make them as statements. Of those the compiler only
 //! warns, unless the program denies it:
@@ -97,8 +99,8 @@ pub mod list_ordered_multimap {
     pub use crate::{EntryValues, EntryValuesDrain, IntoIter, Iter, KeyValues, Keys, Values};
 }
 
-/// The most keys that a map holds.
+/// The highest limit of keys, which a map has unless it is made with a lower one.
 pub const MEMBERS: usize = 256;
 
-/// The most values that a map holds.
+/// The highest limit of values, likewise.
 pub const ROUNDS: usize = 1024;

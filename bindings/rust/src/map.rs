@@ -1,5 +1,5 @@
 use crate::ffi::{Map, Record};
-use crate::{Entry, KeyWrapper, OccupiedEntry, Refused, VacantEntry, ROUNDS};
+use crate::{Entry, KeyWrapper, OccupiedEntry, Refused, VacantEntry, MEMBERS, ROUNDS};
 use std::{fmt, iter, vec};
 
 /// The values of a key, in order.
@@ -30,7 +30,7 @@ pub struct ListOrderedMultimap {
 }
 
 impl ListOrderedMultimap {
-    /// The empty map.
+    /// The empty map with the highest limits, [`MEMBERS`] and [`ROUNDS`].
     ///
     /// ```
     /// use prelgammo::ListOrderedMultimap;
@@ -40,7 +40,27 @@ impl ListOrderedMultimap {
     /// ```
     #[must_use]
     pub fn new() -> ListOrderedMultimap {
-        ListOrderedMultimap { map: Map::new() }
+        ListOrderedMultimap::with_limits(MEMBERS, ROUNDS).expect("the highest limits are not too high")
+    }
+
+    /// The empty map with limits of its own: it never has more keys than `members` and more values than `rounds`, and
+    /// every call keeps these limits. They may be 0. Refused by 15, where one is above [`MEMBERS`] or [`ROUNDS`].
+    ///
+    /// ```
+    /// use prelgammo::{ListOrderedMultimap, Refused};
+    ///
+    /// let mut map = ListOrderedMultimap::with_limits(1, 2)?;
+    /// map.append(7, 10)?;
+    /// assert_eq!(map.append(9, 20), Err(Refused::Crowded));
+    /// map.append(7, 11)?;
+    /// assert_eq!(map.append(7, 12), Err(Refused::Full));
+    /// assert_eq!(ListOrderedMultimap::with_limits(257, 2), Err(Refused::LimitsAbove));
+    /// # Ok::<(), prelgammo::Refused>(())
+    /// ```
+    pub fn with_limits(members: usize, rounds: usize) -> Result<ListOrderedMultimap, Refused> {
+        let (map, answer) = Map::new(members as u64, rounds as u64);
+        answer.accepted()?.done();
+        Ok(ListOrderedMultimap { map })
     }
 
     /// Adds a value at the back, and says whether the key was in the map before. Refused by 1 and 2.
@@ -57,7 +77,7 @@ impl ListOrderedMultimap {
         Ok(answer.present())
     }
 
-    /// Takes all pairs out. [`taken`](ListOrderedMultimap::taken) stays.
+    /// Takes all pairs out. [`taken`](ListOrderedMultimap::taken) and the limits stay.
     ///
     /// ```
     /// use prelgammo::ListOrderedMultimap;
@@ -396,7 +416,7 @@ impl ListOrderedMultimap {
         self.map.values_len().count() as usize
     }
 
-    /// The map of these pairs, as if each were appended to an empty one. Where one of the appends would be refused, by 1 or
+    /// The map of these pairs, as if each were appended to a [`new`](ListOrderedMultimap::new) one. Where one of the appends would be refused, by 1 or
     /// 2, there is no map.
     ///
     /// ```
@@ -413,7 +433,7 @@ impl ListOrderedMultimap {
         Ok(map)
     }
 
-    /// The map of a record that C code gave, or none if the record is not well-linked.
+    /// The map of a record that C code gave, with the limits that stand in it, or none if the record is not well-linked.
     ///
     /// ```
     /// use prelgammo::ListOrderedMultimap;
@@ -461,7 +481,7 @@ impl fmt::Debug for ListOrderedMultimap {
     }
 }
 
-/// As in the crate: maps are equal when they have the same pairs in the same order.
+/// As in the crate: maps are equal when they have the same pairs in the same order, whatever their limits.
 impl PartialEq for ListOrderedMultimap {
     fn eq(&self, other: &ListOrderedMultimap) -> bool {
         self.iter().eq(other.iter())

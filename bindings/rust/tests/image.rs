@@ -92,6 +92,32 @@ fn damaged_images_are_refused() {
     assert_eq!(refused(&layout(&crowd, 256)), Refused::WrongMembers);
 }
 
+// The same image for limits that just hold it, one below and one above; and 15 before all else.
+#[test]
+fn an_image_is_read_into_limits() {
+    let pairs = [(7, 10), (9, 20), (7, 11)];
+    let image = layout(&pairs, 2);
+    let read = |bytes: &[u8], members, rounds| ListOrderedMultimap::from_bytes_with_limits(bytes, members, rounds);
+    for (members, rounds) in [(2, 3), (3, 3), (2, 4), (256, 1024)] {
+        same(&read(&image, members, rounds).unwrap(), &appended(&pairs));
+    }
+    for (members, rounds) in [(1, 3), (2, 2), (0, 0), (1, 1024), (256, 2)] {
+        assert_eq!(read(&image, members, rounds), Err(Refused::TooMany));
+    }
+    let mut map = read(&image, 2, 3).unwrap();
+    assert_eq!(map.append(7, 12), Err(Refused::Full));
+    assert!(map.pop_front().is_some());
+    assert_eq!((map.append(4, 1), map.append(7, 12)), (Err(Refused::Crowded), Ok(true)));
+    // more members than the limit, where m is not
+    assert_eq!(read(&layout(&[(1, 1), (2, 2), (3, 3)], 2), 2, 3), Err(Refused::WrongMembers));
+    for bytes in [&image[..], &image[..7], &image[..9], &[]] {
+        assert_eq!(read(bytes, 257, 1024), Err(Refused::LimitsAbove));
+        assert_eq!(read(bytes, 256, 1025), Err(Refused::LimitsAbove));
+    }
+    assert_eq!(read(&[], 0, 0), Err(Refused::TooShort));
+    assert_eq!(read(&layout(&[], 0), 0, 0).map(|map| map.values_len()), Ok(0));
+}
+
 // One byte of an image set to any other: refused, or the map of the pairs that it then has.
 #[test]
 fn any_byte_may_be_damaged() {
@@ -145,6 +171,25 @@ fn a_file_is_there_and_back() {
         }
     }
     assert_eq!(folder.names(), ["rounds"]);
+}
+
+#[test]
+fn a_file_is_loaded_into_limits() {
+    let folder = Folder::new("limits");
+    let path = folder.0.join("rounds");
+    let mut map = ListOrderedMultimap::with_limits(2, 3).unwrap();
+    map.try_extend([(7, 10), (9, 20), (7, 11)]).unwrap();
+    map.save(&path).unwrap();
+    let mut loaded = ListOrderedMultimap::load_with_limits(&path, 2, 3).unwrap();
+    assert_eq!((loaded == map, loaded.append(7, 12)), (true, Err(Refused::Full)));
+    // the file does not have the limits
+    assert_eq!(ListOrderedMultimap::load(&path).unwrap().append(4, 30), Ok(false));
+    let refused = |members, rounds| {
+        let error = ListOrderedMultimap::load_with_limits(&path, members, rounds).unwrap_err();
+        error.downcast::<Refused>().unwrap()
+    };
+    assert_eq!((refused(2, 2), refused(1, 3)), (Refused::TooMany, Refused::TooMany));
+    assert_eq!((refused(257, 3), refused(2, 1025)), (Refused::LimitsAbove, Refused::LimitsAbove));
 }
 
 #[test]

@@ -3,24 +3,29 @@
 mod common;
 
 use common::{same, same_lists, same_record, Model, Random};
-use prelgammo::{Entry, ListOrderedMultimap, OccupiedEntry};
+use prelgammo::{Entry, ListOrderedMultimap, OccupiedEntry, MEMBERS, ROUNDS};
 
-// Keys that come up often, so that records grow, and how often a call adds.
+// Keys that come up often, so that records grow, how often a call adds, and the limits of members and of rounds.
 struct Mix {
     keys: Vec<u64>,
     adding: usize,
     calls: usize,
+    limits: (usize, usize),
 }
 
 fn mixes(random: &mut Random) -> Vec<Mix> {
     let spread = (0..400).map(|_| random.next()).chain([0, u64::MAX]).collect();
-    vec![
-        Mix { keys: (0..3).collect(), adding: 5, calls: 2000 },
-        Mix { keys: (0..40).collect(), adding: 12, calls: 2000 },
-        Mix { keys: vec![0, u64::MAX, 512, 1 << 63], adding: 8, calls: 1000 },
-        Mix { keys: spread, adding: 200, calls: 3000 },
-        Mix { keys: (0..200).collect(), adding: 1500, calls: 4000 },
-    ]
+    let limits = (MEMBERS, ROUNDS);
+    let mut mixes = vec![
+        Mix { keys: (0..3).collect(), adding: 5, calls: 2000, limits },
+        Mix { keys: (0..40).collect(), adding: 12, calls: 2000, limits },
+        Mix { keys: vec![0, u64::MAX, 512, 1 << 63], adding: 8, calls: 1000, limits },
+        Mix { keys: spread, adding: 200, calls: 3000, limits },
+        Mix { keys: (0..200).collect(), adding: 1500, calls: 4000, limits },
+    ];
+    let lower = [(0, 0), (0, 5), (5, 0), (2, 3), (8, 40), (256, 40), (8, 1024)];
+    mixes.extend(lower.map(|limits| Mix { keys: (0..12).collect(), adding: 20, calls: 1000, limits }));
+    mixes
 }
 
 // Makes one call of each, and compares what they answer.
@@ -38,7 +43,8 @@ fn call(map: &mut ListOrderedMultimap, model: &mut Model, key: u64, value: u64, 
             assert_eq!(map.retain(keep), model.retain(keep));
         }
         7 => {
-            let (members, rounds) = (random.below(300), random.below(1100));
+            let members = [random.below(300), random.below(model.most_members + 2)][random.below(2)];
+            let rounds = [random.below(1100), random.below(model.most_rounds + 2)][random.below(2)];
             assert_eq!(map.pack_to(members, rounds), model.pack_to(members, rounds));
         }
         8 => entry_call(map, model, key, value, random.below(7)),
@@ -97,7 +103,9 @@ fn occupied_call(mut entry: OccupiedEntry, model: &mut Model, key: u64, value: u
 }
 
 fn run(mix: &Mix, random: &mut Random) -> (usize, usize) {
-    let (mut map, mut model) = (ListOrderedMultimap::new(), Model::default());
+    let (members, rounds) = mix.limits;
+    let mut map = ListOrderedMultimap::with_limits(members, rounds).unwrap();
+    let mut model = Model::with_limits(members, rounds);
     let (mut most_members, mut most_rounds) = (0, 0);
     for at in 0..mix.calls {
         let key = mix.keys[random.below(mix.keys.len())];
@@ -118,8 +126,10 @@ fn run(mix: &Mix, random: &mut Random) -> (usize, usize) {
 #[test]
 fn random_lists_answer_as_the_model() {
     let mut random = Random(20_240_607);
-    let reached: Vec<_> = mixes(&mut random).iter().map(|mix| run(mix, &mut random)).collect();
-    // The lists come to both limits, or the test would say little.
+    let mixes = mixes(&mut random);
+    let reached: Vec<_> = mixes.iter().map(|mix| run(mix, &mut random)).collect();
+    // The lists come to both limits, the highest and lower ones, or the test would say little.
     assert!(reached.iter().any(|most| most.0 == 256), "{reached:?}");
     assert!(reached.iter().any(|most| most.1 == 1024), "{reached:?}");
+    assert!(mixes.iter().zip(&reached).any(|(mix, most)| mix.limits == (8, 40) && *most == (8, 40)), "{reached:?}");
 }

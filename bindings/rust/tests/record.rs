@@ -1,6 +1,6 @@
 // Records of unknown origin: only well-linked ones become maps.
 
-use prelgammo::{ListOrderedMultimap, Record};
+use prelgammo::{ListOrderedMultimap, Record, Refused};
 
 fn sample() -> ListOrderedMultimap {
     let mut map = ListOrderedMultimap::from_pairs(&[(7, 10), (9, 20), (7, 11), (3, 30), (7, 12)]).unwrap();
@@ -38,4 +38,19 @@ fn damaged_records_are_no_maps() {
     refused(|record| record.key_index[0] = 2);
     refused(|record| record.index = [65535; 512]);
     refused(|record| record.keys[0] = 8);
+}
+
+// The sample has two members and four rounds.
+#[test]
+fn a_record_s_limits_hold_it_and_are_not_too_high() {
+    refused(|record| record.keys_limit = 1);
+    refused(|record| record.keys_limit = 257);
+    refused(|record| record.keys_limit = 65535);
+    refused(|record| record.values_limit = 3);
+    refused(|record| record.values_limit = 1025);
+    let mut record = Box::new(*sample().as_record());
+    (record.keys_limit, record.values_limit) = (2, 5);
+    let mut map = ListOrderedMultimap::from_record(&record).unwrap();
+    assert_eq!(map.append(8, 1), Err(Refused::Crowded));
+    assert_eq!((map.append(3, 2), map.append(3, 3)), (Ok(true), Err(Refused::Full)));
 }

@@ -19,14 +19,26 @@ impl Random {
     }
 }
 
-#[derive(Clone, Debug, Default)]
+#[derive(Clone, Debug)]
 pub struct Model {
+    pub most_members: usize,
+    pub most_rounds: usize,
     pub pairs: Vec<(u64, u64)>,
     pub members: Vec<u64>,
     pub taken: u64,
 }
 
+impl Default for Model {
+    fn default() -> Model {
+        Model::with_limits(MEMBERS, ROUNDS)
+    }
+}
+
 impl Model {
+    pub fn with_limits(most_members: usize, most_rounds: usize) -> Model {
+        Model { most_members, most_rounds, pairs: Vec::new(), members: Vec::new(), taken: 0 }
+    }
+
     pub fn contains_key(&self, key: u64) -> bool {
         self.members.contains(&key)
     }
@@ -36,10 +48,10 @@ impl Model {
     }
 
     fn room(&self, key: u64) -> Result<(), Refused> {
-        if self.pairs.len() == ROUNDS {
+        if self.pairs.len() == self.most_rounds {
             return Err(Refused::Full);
         }
-        if !self.contains_key(key) && self.members.len() == MEMBERS {
+        if !self.contains_key(key) && self.members.len() == self.most_members {
             return Err(Refused::Crowded);
         }
         Ok(())
@@ -110,7 +122,7 @@ impl Model {
         if rounds < self.pairs.len() {
             return Err(Refused::RoundsBelow);
         }
-        if members > MEMBERS || rounds > ROUNDS {
+        if members > self.most_members || rounds > self.most_rounds {
             return Err(Refused::Above);
         }
         Ok(())
