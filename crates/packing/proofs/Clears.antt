@@ -1,10 +1,10 @@
 -- A map with no place in use, and the step of `clear`. Assumes nothing.
-use Prim.Native.Nat.{ℕ, _≤_, _<_}
+use Prim.Native.Nat.{ℕ, zero, suc, _≤_, _<_}
 use mathlib.Core.Path.{_≡_, refl, ap, sym, subst, _∙_}
 use mathlib.Core.Bool.{Bool, true, false}
 use mathlib.Core.List.{List, []}
 use native.Mathlib.Omega.{arith}
-use lib.ListN.{length, set, replicate, length-set, length-replicate}
+use lib.ListN.{length, getD, set, replicate, length-set, length-replicate}
 use lib.Seq.{getD-set-same}
 use Rattle.steps.specs.State.{State, Limits, limit, maxTaken, empty}
 use Rattle.steps.specs.Call.{Answer, clear, refused, done}
@@ -15,12 +15,18 @@ use Rattle.steps.specs.Trace.{Does}
 use Rattle.steps.specs.Told.{Told}
 use Rattle.steps.proofs.Doing.{does-change}
 use Rattle.steps.proofs.Limits.{made-refused, made-done, allowed}
+use Rattle.links.specs.Route.{tally}
+use Rattle.links.specs.Places.{order}
+use Rattle.links.specs.Links.{recordOf}
+use Rattle.links.proofs.Bare.{bare-order}
+use Rattle.links.proofs.Lists.{length-order}
 use Rattle.index.specs.Table.{emptyIndex}
 use Rattle.index.proofs.Table.{empty-holds}
 use Rattle.multimap.specs.Arrays.{Arrays, Sized, arrays}
-use Rattle.multimap.specs.Map.{at, limitsOf, stateOf}
+use Rattle.multimap.specs.Map.{at, roundsOf, membersOf, limitsOf, stateOf}
 use Rattle.multimap.specs.Making.{Made}
 use Rattle.multimap.specs.WellLinked.{WellLinked, linked}
+use Rattle.multimap.proofs.Copies.{getD-in}
 use Rattle.multimap.proofs.Empty.{empty-map}
 use Rattle.packing.specs.Cleared.{unused, cleared, zeros}
 
@@ -77,6 +83,28 @@ module _ (a : Arrays) (g : WellLinked a) where
   clears =
       let e = cleared-map a (g .sized) (g .limited .allowed) (g .taken) in
       does-change linked clear a (say done) (nothing (a .taken) (limitsOf a)) (cleared a) refl refl (step-clear (stateOf a)) (e .1) (e .0)
+
+  -- a map that holds no round has no member either: it stays as it is
+  module _ (none : at (a .rounds) 0 ≡ 0) where
+    no-rounds : order (roundsOf a) ≡ []
+    no-rounds = bare-order (roundsOf a) none
+
+    no-members : order (membersOf a) ≡ []
+    no-members = bare-order (membersOf a) (go (at (a .members) 0) refl)
+      where
+        go : (n : ℕ) → at (a .members) 0 ≡ n → at (a .members) 0 ≡ 0
+        go zero e = e
+        go (suc n) e =
+            let x : ℕ = getD (order (membersOf a)) 0 0 in
+            let i : 0 < tally x (order (membersOf a)) = getD-in (order (membersOf a)) 0 0 (omega (arith, length-order (membersOf a), e)) in
+            absurd (omega (arith, g .some x i, ap (λ (l : List ℕ). length (recordOf (at (a .«key_index»)) x l)) no-rounds))
+
+    stays : Does linked clear a (say done) a
+    stays =
+        does-change linked clear a (say done) (nothing (a .taken) (limitsOf a)) a refl refl (step-clear (stateOf a)) (rw (no-rounds, no-members)) g
+
+    pub told-nothing : (ans : List ℕ) → ans ≡ coded done → Told linked clear a a [] [] ans
+    told-nothing ans w = record { outcome = say done; does = stays; out-is = refl; out2-is = refl; ans-is = w }
 
   pub told-clear : (r : Arrays) → r ≡ cleared a → (ans : List ℕ) → ans ≡ coded done → Told linked clear a r [] [] ans
   told-clear r e ans w =

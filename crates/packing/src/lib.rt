@@ -59,7 +59,7 @@ pub extern "C" fn om_new(
     answers::tell(answer, Answer::Done);
 }
 
-// Empties the map. T stays.
+// Empties the map, which stays as it is where it holds no round: then it has no member either. T stays.
 #[rattlefmt::skip]
 #[no_mangle]
 pub extern "C" fn om_clear(
@@ -74,6 +74,11 @@ pub extern "C" fn om_clear(
     requires { λ α. ⌜ WellLinked α ⌝ }
     ensures { λ α _. ⌜ Told linked C.clear α (left keys lengths «next_key» «previous_key» values «key_index» «next_value» «previous_value» «next_index» «previous_index» index members rounds taken) [] [] (now (answer .exit)) ⌝ }
 {
+    let held = rounds[0];
+    if held == 0 {
+        answers::tell(answer, Answer::Done);
+        return;
+    }
     vacate(
         keys, lengths, next_key, previous_key, values, key_index, next_value, previous_value,
         next_index, previous_index, index, members, rounds, taken,
