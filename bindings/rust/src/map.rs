@@ -416,8 +416,8 @@ impl ListOrderedMultimap {
         self.map.values_len().count() as usize
     }
 
-    /// The map of these pairs, as if each were appended to a [`new`](ListOrderedMultimap::new) one. Where one of the appends would be refused, by 1 or
-    /// 2, there is no map.
+    /// The map of these pairs, as if each were appended to a [`new`](ListOrderedMultimap::new) one. Where one of the appends
+    /// would be refused, by 1 or 2, there is no map.
     ///
     /// ```
     /// use prelgammo::{ListOrderedMultimap, Refused};
