@@ -23,7 +23,7 @@ struct om_map {
     uint16_t previous_index[1280];
     /* The index: member places, or EMPTY. */
     uint16_t index[512];
-    /* How many places are in use, how many have ever been, and the first freed one, from which the others follow by next; and how many may be in use. */
+    /* How many places are in use, how many have ever been, the first freed one, from which the others follow by next, and the map's limit. */
     uint16_t members[4];
     uint16_t rounds[4];
     /* Rounds ever taken in. */

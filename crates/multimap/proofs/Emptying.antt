@@ -1,6 +1,6 @@
 -- The rounds of a member place are all struck. Assumes nothing.
 use Prim.Native.Nat.{ℕ, _+_, _<_}
-use mathlib.Core.Path.{_≡_, refl, sym, ap, subst, _∙_}
+use mathlib.Core.Path.{_≡_, refl, sym, ap, _∙_}
 use mathlib.Core.Logic.{_≢_}
 use mathlib.Core.Bool.{true, not}
 use mathlib.Core.List.{List, [], map, append-nil}
@@ -10,7 +10,6 @@ use lib.Dec.{eqb}
 use lib.ListN.{length, length-map}
 use Rattle.steps.specs.Lists.{filter}
 use Rattle.steps.specs.State.{Limits, of, rounds, others}
-use Rattle.steps.specs.Proper.{Allowed}
 use Rattle.steps.proofs.Filter.{length-split}
 use Rattle.links.specs.Route.{keep, strip}
 use Rattle.links.specs.Places.{Places, order}
@@ -18,10 +17,11 @@ use Rattle.links.specs.Links.{recordIn, recordOf}
 use Rattle.links.proofs.Routes.{keep-same, keep-inside}
 use Rattle.links.proofs.Strips.{keep-neither, strip-those}
 use Rattle.links.proofs.Chains.{in-record}
-use Rattle.multimap.specs.Map.{at, pairAt, pairs, members, roundsOf, linksOf, limitsOf}
+use Rattle.multimap.specs.Map.{at, pairAt, pairs, members, roundsOf, linksOf}
 use Rattle.multimap.specs.Arrays.{Arrays}
 use Rattle.multimap.specs.WellLinked.{WellLinked}
 use Rattle.multimap.proofs.Stores.{length-pairs}
+use Rattle.multimap.proofs.States.{limited-less}
 use Rattle.multimap.proofs.Records.{Member, member-at, own-round, head-in, filter-map}
 use Rattle.multimap.specs.Strike.{chosen, visited, Stretch, Struck, MemberPlace, Emptied}
 use Rattle.multimap.proofs.Strikes.{chosen-all}
@@ -78,9 +78,18 @@ module _ (m : Arrays) (k : ℕ) (h : MemberPlace m k) where
         (ap (map (pairAt m)) (left ∙ sym (keep-same (λ q. not (of (at (m .keys) k) (pairAt m q))) (λ q. not (eqb (key q) k)) vs (λ q i. ap not (own-round m (h .linked) k q (h .inside) i))))
         ∙ sym (filter-map (λ p. not (of (at (m .keys) k) p)) (pairAt m) vs))
 
-    fewer : at (o .rounds) 0 < limitsOf o .rounds
+    fewer : at (o .rounds) 0 < at (m .rounds) 0
     fewer =
-        omega (arith, h .linked .limited .rounds, ap (λ (l : Limits). l .rounds) (s .kept .ledger .limits), length-pairs o, ap length pairs-left, length-split (of (at (m .keys) k)) (pairs m), length-map (filter (of (at (m .keys) k)) (pairs m)) (λ p. p .value), its-member .many, its-member .some, length-pairs m)
+        omega (
+          arith,
+          length-pairs o,
+          ap length pairs-left,
+          length-split (of (at (m .keys) k)) (pairs m),
+          length-map (filter (of (at (m .keys) k)) (pairs m)) (λ p. p .value),
+          its-member .many,
+          its-member .some,
+          length-pairs m,
+        )
 
     pub emptied : Emptied m k o
     emptied =
@@ -94,18 +103,9 @@ module _ (m : Arrays) (k : ℕ) (h : MemberPlace m k) where
           keys = s .kept .keys;
           ledger = s .kept .ledger;
           limited =
-              record {
-                allowed = subst Allowed (sym (s .kept .ledger .limits)) (h .linked .limited .allowed);
-                members =
-                    omega (
-                      arith,
-                      h .linked .limited .members,
-                      ap (λ (l : Limits). l .members) (s .kept .ledger .limits),
-                      ap (λ (l : Places). l .len) (s .kept .members),
-                    );
-                rounds = omega (arith, fewer);
-              };
-          room = fewer;
+              limited-less m o (h .linked .limited) (s .kept .ledger .limits) (omega (arith, ap (λ (l : Places). l .len) (s .kept .members)))
+              (omega (arith, fewer));
+          room = omega (arith, fewer, h .linked .limited .rounds, ap (λ (l : Limits). l .rounds) (s .kept .ledger .limits));
           pairs = pairs-left;
           members = rw (s .kept .keys, ap order (s .kept .members));
         }

@@ -9,18 +9,18 @@ use borrow.Author.Tests.{eq-eqb, ne-eqb, eqb-false}
 use lib.Dec.{eqb}
 use lib.ListN.{length}
 use Rattle.steps.specs.Lists.{filter}
-use Rattle.steps.specs.State.{Limits, has, keep as keeping}
-use Rattle.steps.specs.Proper.{Allowed}
+use Rattle.steps.specs.State.{has, keep as keeping}
 use Rattle.links.specs.Route.{pick, tally, keep, strip}
 use Rattle.links.specs.Places.{Places, order}
 use Rattle.links.specs.Links.{recordOf, recordIn}
 use Rattle.links.proofs.Routes.{same-or-not, tally-same, tally-hit, tally-other, keep-all, keep-same, tally-keep, length-keep}
 use Rattle.links.proofs.Lists.{length-order}
 use Rattle.links.proofs.Strips.{strip-keep, length-strip}
-use Rattle.multimap.specs.Map.{at, pairAt, pairs, members, roundsOf, membersOf, linksOf, limitsOf, stateOf}
+use Rattle.multimap.specs.Map.{at, pairAt, pairs, members, roundsOf, membersOf, linksOf, stateOf}
 use Rattle.multimap.specs.WellLinked.{WellLinked, Limited}
 use Rattle.multimap.specs.Arrays.{Arrays}
 use Rattle.multimap.proofs.Records.{filter-map, same-number}
+use Rattle.multimap.proofs.States.{limited-less}
 use Rattle.multimap.specs.Strike.{Struck}
 use Rattle.multimap.specs.Sweep.{Sound, Swept}
 
@@ -84,36 +84,25 @@ module _ (m : Arrays) (g : WellLinked m) (ws : List ℕ) (o : Arrays) (s : Struc
           limited = limited;
         }
       where
-        limits : limitsOf r ≡ limitsOf m
-        limits = w .kept .ledger .limits ∙ s .kept .ledger .limits
-
         limited : Limited r
         limited =
-            record {
-              allowed = subst Allowed (sym limits) (g .limited .allowed);
-              members =
-                  omega (
-                    arith,
-                    g .limited .members,
-                    ap (λ (l : Limits). l .members) limits,
-                    length-order (membersOf r),
-                    ap length left,
-                    length-keep with-round (order (membersOf o)),
-                    ap length same-members,
-                    length-order (membersOf m),
-                  );
-              rounds =
-                  omega (
-                    arith,
-                    g .limited .rounds,
-                    ap (λ (l : Limits). l .rounds) limits,
-                    length-order (roundsOf r),
-                    ap (λ (l : Places). length (order l)) (w .kept .rounds),
-                    ap length (s .left),
-                    length-strip ws (order (roundsOf m)),
-                    length-order (roundsOf m),
-                  );
-            }
+            limited-less m r (g .limited) (w .kept .ledger .limits ∙ s .kept .ledger .limits)
+            (omega (
+              arith,
+              length-order (membersOf r),
+              ap length left,
+              length-keep with-round (order (membersOf o)),
+              ap length same-members,
+              length-order (membersOf m),
+            ))
+            (omega (
+              arith,
+              length-order (roundsOf r),
+              ap (λ (l : Places). length (order l)) (w .kept .rounds),
+              ap length (s .left),
+              length-strip ws (order (roundsOf m)),
+              length-order (roundsOf m),
+            ))
 
         go : (k : ℕ) (b : Bool) → eqb (at (o .lengths) k) 0 ≡ b → 0 < tally k (keep with-round (order (membersOf o))) → 0 < at (o .lengths) k
         go k true e i = absurd (omega (arith, i, tally-keep with-round k (order (membersOf o)), ap (λ (b : Bool). pick (not b) (tally k (order (membersOf o))) 0) e))

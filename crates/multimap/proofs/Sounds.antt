@@ -8,7 +8,6 @@ use lib.Dec.{eqb}
 use lib.ListN.{length, length-map}
 use Rattle.steps.specs.Lists.{filter}
 use Rattle.steps.specs.State.{State, of}
-use Rattle.steps.specs.Proper.{Allowed}
 use Rattle.links.specs.Route.{tally, keep}
 use Rattle.links.specs.Places.{order}
 use Rattle.links.specs.Links.{recordIn}
@@ -19,6 +18,7 @@ use Rattle.multimap.specs.WellLinked.{WellLinked, Limited}
 use Rattle.multimap.specs.Sweep.{Sound}
 use Rattle.multimap.proofs.Stores.{mem-tally, tally-mem, length-pairs, length-members}
 use Rattle.multimap.proofs.Records.{filter-map, same-number}
+use Rattle.multimap.proofs.States.{limited-less}
 
 pub linked-sound : (m : Arrays) → WellLinked m → Sound m
 linked-sound m g = record { sized = g .sized; chained = g .chained; index = g .index }
@@ -46,27 +46,9 @@ sound-linked m g r h e =
   where
     limited : Limited r
     limited =
-        record {
-          allowed = subst (λ (s : State). Allowed (s .limits)) (sym e) (g .limited .allowed);
-          members =
-              omega (
-                arith,
-                g .limited .members,
-                ap (λ (s : State). s .limits .members) e,
-                length-members r,
-                length-members m,
-                ap (λ (s : State). length (s .members)) e,
-              );
-          rounds =
-              omega (
-                arith,
-                g .limited .rounds,
-                ap (λ (s : State). s .limits .rounds) e,
-                length-pairs r,
-                length-pairs m,
-                ap (λ (s : State). length (s .pairs)) e,
-              );
-        }
+        limited-less m r (g .limited) (ap (λ (s : State). s .limits) e)
+        (omega (arith, length-members r, length-members m, ap (λ (s : State). length (s .members)) e))
+        (omega (arith, length-pairs r, length-pairs m, ap (λ (s : State). length (s .pairs)) e))
 
     some : (x : ℕ) → 0 < tally x (order (membersOf r)) → 0 < length (recordIn (linksOf r) x)
     some x i =

@@ -1,7 +1,8 @@
 -- Module 6 of document 01 in its own words: a map's arrays, links, lengths, free places and index represent P and K. proofs/Exactly.antt shows that
 -- a map is well-linked exactly when they represent some P and K, K holding each member of P exactly once and no other, T is at most its
--- bound, and the limits are at most 256 and 1,024 with K and P within them (document 02, No. 1). What `WellLinked` asks beyond is derived there: that each member has a round (`some`), since K holds no other member than P's; that no
--- two members have one number (`Holds.distinct`), since the search finds each; that no place stands twice, in use or freed, by counting.
+-- bound, and the limits are at most 256 and 1,024 with K and P within them (document 02, No. 1). What `WellLinked` asks beyond is derived there:
+-- that each member has a round (`some`), since K holds no other member than P's; that no two members have one number (`Holds.distinct`), since
+-- the search finds each; that no place stands twice, in use or freed, by counting.
 use Prim.Native.Nat.{ℕ, _+_, _<_, _≤_}
 use mathlib.Core.Path.{_≡_}
 use mathlib.Core.Bool.{cond}

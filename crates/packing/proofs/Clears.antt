@@ -4,7 +4,7 @@ use mathlib.Core.Path.{_≡_, refl, ap, sym, subst, _∙_}
 use mathlib.Core.Bool.{Bool, true, false}
 use mathlib.Core.List.{List, []}
 use native.Mathlib.Omega.{arith}
-use lib.ListN.{length, getD, set, replicate, length-set, length-replicate}
+use lib.ListN.{length, getD, set, length-set, length-replicate}
 use lib.Seq.{getD-set-same}
 use Rattle.steps.specs.State.{State, Limits, limit, maxTaken, empty}
 use Rattle.steps.specs.Call.{Answer, clear, refused, done}
@@ -14,7 +14,7 @@ use Rattle.steps.specs.Proper.{Allowed}
 use Rattle.steps.specs.Trace.{Does}
 use Rattle.steps.specs.Told.{Told}
 use Rattle.steps.proofs.Doing.{does-change}
-use Rattle.steps.proofs.Limits.{made-refused, made-done, allowed}
+use Rattle.steps.proofs.Limits.{made-refused, made-done, may-have}
 use Rattle.links.specs.Route.{tally}
 use Rattle.links.specs.Places.{order}
 use Rattle.links.specs.Links.{recordOf}
@@ -149,11 +149,8 @@ module _ (l k : Limits) (allowed : Allowed k) (a : Answer) (is : makeOf l ≡ (a
       }
 
 module _ (l : Limits) {b : Bool} (high : b ≡ tooHigh l) where
-  pub may-have : b ≡ false → Allowed l
-  may-have h = allowed l (sym high ∙ h)
-
   pub made-none : b ≡ true → {o : Arrays} {ans : List ℕ} → o ≡ cleared (zeros 0 0) → ans ≡ coded (refused 15) → Made l o ans
   made-none h = made l (limit 0 0) (record { members = omega arith; rounds = omega arith }) (refused 15) (made-refused l (sym high ∙ h))
 
   pub made-new : b ≡ false → {o : Arrays} {ans : List ℕ} → o ≡ cleared (zeros (l .members) (l .rounds)) → ans ≡ coded done → Made l o ans
-  made-new h = made l l (may-have h) done (made-done l (sym high ∙ h))
+  made-new h = made l l (may-have l high h) done (made-done l (sym high ∙ h))

@@ -81,6 +81,10 @@ allowed l e = go (ltb maxMembers (l .members)) (ltb maxRounds (l .rounds)) refl 
     go false true e f h = absurd (true≢false h)
     go false false e f h = record { members = omega (arith, ltb-false); rounds = omega (arith, ltb-false) }
 
+-- so where a test of it says no
+pub may-have : (l : Limits) {b : Bool} → b ≡ tooHigh l → b ≡ false → Allowed l
+may-have l high h = allowed l (sym high ∙ h)
+
 pub not-too-high : (l : Limits) → Allowed l → tooHigh l ≡ false
 not-too-high l h = rw (le-ltb maxMembers (l .members) (h .members), le-ltb maxRounds (l .rounds) (h .rounds))
 

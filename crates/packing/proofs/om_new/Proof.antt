@@ -3,7 +3,8 @@ use native.Mathlib.Omega.{arith}
 use borrow.Author.Needs.{needs}
 use Rattle.steps.specs.State.{Limits, limit}
 use Rattle.steps.specs.Proper.{Allowed}
-use Rattle.packing.proofs.Clears.{may-have, made-none, made-new}
+use Rattle.steps.proofs.Limits.{may-have}
+use Rattle.packing.proofs.Clears.{made-none, made-new}
 use Rattle.packing.proofs.om_new.Statement.{statement}
 use Rattle.packing.proofs.om_new.Tie as tie
 
