@@ -6,9 +6,10 @@ use crate::calls::grouped;
 use crate::chart;
 use crate::clock::{deep, hold, keep_memory, median, time_copies, time_copy, time_handing, timed};
 use crate::crate_map::CrateMap;
-use crate::library::{ByValue, PortMap, Tapes, UNSAID};
+use crate::library::{ByValue, PortMap, Tapes};
 use crate::model::{Call, Op, HIGHEST, MAX_MEMBERS, MAX_ROUNDS};
 use crate::port::{Port, Tape};
+use std::mem::MaybeUninit;
 
 // The bytes of the port's record.
 const RECORD: usize = 24_096;
@@ -163,8 +164,9 @@ impl Timed for CrateMap {
 impl Timed for PortMap {
     #[inline(never)]
     fn make(&mut self, call: &Call, out: &mut [u64], out2: &mut [u64]) {
-        let mut answer = UNSAID;
-        PortMap::make(self, call, out, out2, &mut answer);
+        let mut answer = MaybeUninit::uninit();
+        // each call writes all four numbers of its answer, which is an array of its own
+        unsafe { PortMap::make(self, call, out, out2, answer.as_mut_ptr()) };
         hold(&mut answer);
     }
 }
@@ -193,15 +195,16 @@ impl<Map: Timed> Side<Map> {
         side
     }
 
-    // Times the calls on a fresh copy of the map, some at a time, so that few of the times are those of calls that were
+    // Times the calls on fresh copies of the map, some at a time, so that few of the times are those of calls that were
     // interrupted.
     fn run(&mut self, case: &Case, run: usize) {
         let Side { map, out, out2, times } = self;
-        let mut fresh = map.fresh();
+        let mut fresh: Vec<Map> = (0..case.maps).map(|_| map.fresh()).collect();
         deep(run % 100, &mut || {
             for calls in case.timed.chunks(TOGETHER) {
-                let time = timed(|| calls.iter().for_each(|call| fresh.make(call, out, out2)));
-                times.push(time / calls.len() as f64);
+                let mut each = |map: &mut Map| calls.iter().for_each(|call| map.make(call, out, out2));
+                let time = timed(|| fresh.iter_mut().for_each(&mut each));
+                times.push(time / (case.maps * calls.len()) as f64);
             }
         });
         hold(&mut fresh);

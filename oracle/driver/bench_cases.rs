@@ -19,6 +19,8 @@ pub struct Case {
     // the calls that make the map, which are not timed
     pub before: Vec<Call>,
     pub timed: Vec<Call>,
+    // on how many copies of the map each is made: several where one call alone is too short to be timed
+    pub maps: usize,
 }
 
 fn repeated(count: u64, call: impl Fn(u64) -> Call) -> Vec<Call> {
@@ -69,7 +71,8 @@ fn half_absent(op: Op) -> Vec<Call> {
     repeated(1000, |at| Call::new(op, at % 500, 0))
 }
 
-fn pops(op: Op, count: u64) -> Vec<Call> {
+// Calls that name no member.
+fn plain(op: Op, count: u64) -> Vec<Call> {
     repeated(count, |_| Call::new(op, 0, 0))
 }
 
@@ -78,7 +81,7 @@ pub fn cases() -> Vec<Case> {
 }
 
 fn adding() -> Vec<Case> {
-    let case = |name, aim, before, timed| Case { group: "Adding", name, aim, before, timed };
+    let case = |name, aim, before, timed| Case { group: "Adding", name, aim, before, timed, maps: 1 };
     let (half, as_fast) = (Aim::Half, Aim::NoSlower);
     vec![
         case("append, known member", half, one_each(), each_thrice(Op::Append)),
@@ -96,7 +99,7 @@ fn adding() -> Vec<Case> {
 }
 
 fn taking_out() -> Vec<Case> {
-    let case = |name, aim, before, timed| Case { group: "Taking out", name, aim, before, timed };
+    let case = |name, aim, before, timed| Case { group: "Taking out", name, aim, before, timed, maps: 1 };
     let (half, as_fast) = (Aim::Half, Aim::NoSlower);
     vec![
         case("remove of one round", as_fast, one_each(), each(Op::Remove)),
@@ -105,16 +108,16 @@ fn taking_out() -> Vec<Case> {
         case("remove_all of 1,000 rounds", as_fast, long_record(), vec![Call::lending(Op::RemoveAll, 7, 0, 1000)]),
         case("occupied remove_entry of one round", as_fast, one_each(), each(Op::OccupiedRemoveEntry)),
         case("occupied remove_entry of 4 rounds", as_fast, filled(), each(Op::OccupiedRemoveEntry)),
-        case("pop_front, member stays", half, filled(), pops(Op::PopFront, 750)),
-        case("pop_front, member gone", half, one_each(), pops(Op::PopFront, 250)),
-        case("pop_back, member stays", half, filled(), pops(Op::PopBack, 750)),
-        case("pop_back, member gone", half, one_each(), pops(Op::PopBack, 250)),
+        case("pop_front, member stays", half, filled(), plain(Op::PopFront, 750)),
+        case("pop_front, member gone", half, one_each(), plain(Op::PopFront, 250)),
+        case("pop_back, member stays", half, filled(), plain(Op::PopBack, 750)),
+        case("pop_back, member gone", half, one_each(), plain(Op::PopBack, 250)),
     ]
 }
 
 // Of a member's number, every second one is of no member.
 fn reading() -> Vec<Case> {
-    let case = |name, aim, before, timed| Case { group: "Reading", name, aim, before, timed };
+    let case = |name, aim, before, timed| Case { group: "Reading", name, aim, before, timed, maps: 1 };
     let as_fast = Aim::NoSlower;
     vec![
         case("get", Aim::Half, filled(), half_absent(Op::Get)),
@@ -138,7 +141,7 @@ fn reading() -> Vec<Case> {
 
 // Of 1,024 rounds.
 fn over_all() -> Vec<Case> {
-    let case = |name, timed| Case { group: "The whole map", name, aim: Aim::NoSlower, before: full(), timed };
+    let case = |name, timed| Case { group: "The whole map", name, aim: Aim::NoSlower, before: full(), timed, maps: 1 };
     let every_second = [0, 1].repeat(512);
     let every_16th = [vec![0], vec![1; 15]].concat().repeat(64);
     let mut one = vec![1; 1024];
@@ -150,7 +153,7 @@ fn over_all() -> Vec<Case> {
         case("retain, 64 of 1,024 struck", vec![Call::retain(every_16th)]),
         case("retain, 512 of 1,024 struck", vec![Call::retain(every_second)]),
         case("pack_to, 1,024 rounds of 251 members", vec![packing]),
-        // which takes as long where nothing is left, on both sides
-        case("clear", repeated(250, |_| Call::new(Op::Clear, 0, 0))),
+        Case { maps: 8, ..case("clear, 1,024 rounds of 251 members", plain(Op::Clear, 1)) },
+        Case { before: vec![], ..case("clear, no round held", plain(Op::Clear, 250)) },
     ]
 }

@@ -68,13 +68,14 @@ impl PortMap {
     // Makes any call with its lent slices. The four numbers of its answer.
     pub fn call(&mut self, call: &Call, out: &mut [u64], out2: &mut [u64]) -> [u64; 4] {
         let mut answer = UNSAID;
-        self.make(call, out, out2, &mut answer);
+        // the answer is an array of its own
+        unsafe { self.make(call, out, out2, &mut answer) };
         answer
     }
 
-    // The same, with the answer written where it is to stand.
+    // The same, with the answer written where it is to stand. What stood there is not read.
     #[inline]
-    pub fn make(&mut self, call: &Call, out: &mut [u64], out2: &mut [u64], answer: &mut [u64; 4]) {
+    pub unsafe fn make(&mut self, call: &Call, out: &mut [u64], out2: &mut [u64], answer: *mut [u64; 4]) {
         let (k, v, marks, map) = (call.k, call.v, &call.marks, &mut *self.map);
         // the arrays are lent for the call; each pointer and length are those of one slice, and nothing overlaps
         unsafe {
