@@ -13,8 +13,8 @@ ghost use Rattle.multimap.specs.Lent.{left};
 ghost use Rattle.multimap.specs.WellLinked.{WellLinked};
 
 fn main() {
-    damaged(b"as it is", Array::Nothing, 0, 0);
-    empty_map();
+    damaged(b"as it is", Array::None, 0, 0);
+    damaged(b"the empty map", Array::All, 0, 0);
     rounds();
     round_counts();
     members();
@@ -22,12 +22,12 @@ fn main() {
     limits();
     owners();
     records();
-    member_without_a_round();
+    damaged(b"a member without a round", Array::Owner, 0, 0);
     index_places();
     no_damage();
 }
 
-// A map's array in which a place is damaged.
+// A map's array in which a place is damaged; or none, the owner of a round with all that tells it, or all of them.
 enum Array {
     Keys,
     Lengths,
@@ -43,7 +43,9 @@ enum Array {
     Members,
     Rounds,
     Taken,
-    Nothing,
+    None,
+    Owner,
+    All,
 }
 
 // Makes the sample: the rounds 7:10, 9:20 and 7:11 in the places 0 to 2, their members in 0 and 1. Round place 3 and member place 2 are freed.
@@ -96,7 +98,40 @@ fn put_wide(a: &mut [u64], at: usize, v: u64) {
     }
 }
 
-// Puts v into a place of one of the map's arrays, or into none.
+// Gives the round 20 to the first member, with every link and length of its record. The second member has no round.
+fn give_away(
+    lengths: &mut Lengths,
+    key_index: &mut KeyIndex,
+    next_index: &mut IndexLinks,
+    previous_index: &mut IndexLinks,
+) {
+    key_index[1] = 0;
+    next_index[0] = 1;
+    next_index[1] = 2;
+    previous_index[2] = 1;
+    previous_index[1] = 0;
+    lengths[0] = 3;
+    next_index[1025] = 1025;
+    previous_index[1025] = 1025;
+    lengths[1] = 0;
+}
+
+// Makes the map without a round, whose limits are 0.
+#[rattlefmt::skip]
+fn empty(
+    keys: &mut Keys, lengths: &mut Lengths, next_key: &mut KeyLinks, previous_key: &mut KeyLinks,
+    values: &mut Values, key_index: &mut KeyIndex, next_value: &mut ValueLinks, previous_value: &mut ValueLinks,
+    next_index: &mut IndexLinks, previous_index: &mut IndexLinks, index: &mut Index,
+    members: &mut Counts, rounds: &mut Counts, taken: &mut u32,
+) {
+    let mut answer = [0u64; 4];
+    packing::om_new(
+        keys, lengths, next_key, previous_key, values, key_index, next_value, previous_value,
+        next_index, previous_index, index, members, rounds, taken, 0, 0, &mut answer,
+    );
+}
+
+// Damages the map: puts v into a place of one of its arrays, or does what the other cases say.
 #[rattlefmt::skip]
 fn store(
     keys: &mut Keys, lengths: &mut Lengths, next_key: &mut KeyLinks, previous_key: &mut KeyLinks,
@@ -122,7 +157,12 @@ fn store(
         Array::Taken => {
             *taken = (v % 4294967296) as u32;
         }
-        Array::Nothing => {}
+        Array::None => {}
+        Array::Owner => give_away(lengths, key_index, next_index, previous_index),
+        Array::All => empty(
+            keys, lengths, next_key, previous_key, values, key_index, next_value, previous_value,
+            next_index, previous_index, index, members, rounds, taken,
+        ),
     }
 }
 
@@ -146,7 +186,7 @@ fn say<'a>(
     }
 }
 
-// Prints what the check says of the sample with one place damaged.
+// Prints what the check says of the sample once it is damaged.
 #[rattlefmt::skip]
 fn damaged(what: &[u8], array: Array, at: usize, v: u64) {
     let mut keys = [0u64; 256];
@@ -173,35 +213,6 @@ fn damaged(what: &[u8], array: Array, at: usize, v: u64) {
     );
     say(
         what,
-        &keys, &lengths, &next_key, &previous_key, &values, &key_index, &next_value, &previous_value,
-        &next_index, &previous_index, &index, &members, &rounds, &taken,
-    );
-}
-
-// Prints what the check says of the map without a round, whose limits are 0.
-#[rattlefmt::skip]
-fn empty_map() {
-    let mut keys = [0u64; 256];
-    let mut lengths = [0u16; 256];
-    let mut next_key = [0u16; 257];
-    let mut previous_key = [0u16; 257];
-    let mut values = [0u64; 1024];
-    let mut key_index = [0u16; 1024];
-    let mut next_value = [0u16; 1025];
-    let mut previous_value = [0u16; 1025];
-    let mut next_index = [0u16; 1280];
-    let mut previous_index = [0u16; 1280];
-    let mut index = [0u16; 512];
-    let mut members = [0u16; 4];
-    let mut rounds = [0u16; 4];
-    let mut taken = 0u32;
-    let mut answer = [0u64; 4];
-    packing::om_new(
-        &mut keys, &mut lengths, &mut next_key, &mut previous_key, &mut values, &mut key_index, &mut next_value, &mut previous_value,
-        &mut next_index, &mut previous_index, &mut index, &mut members, &mut rounds, &mut taken, 0, 0, &mut answer,
-    );
-    say(
-        b"the empty map",
         &keys, &lengths, &next_key, &previous_key, &values, &key_index, &next_value, &previous_value,
         &next_index, &previous_index, &index, &members, &rounds, &taken,
     );
@@ -278,43 +289,6 @@ fn records() {
     damaged(b"previous_index[2] = 1024", Array::PreviousIndex, 2, 1024);
     damaged(b"length[0] = 1", Array::Lengths, 0, 1);
     damaged(b"length[1] = 0", Array::Lengths, 1, 0);
-}
-
-// Gives the round 20 to the first member, with every link and length of its record. The second member has no round.
-#[rattlefmt::skip]
-fn member_without_a_round() {
-    let mut keys = [0u64; 256];
-    let mut lengths = [0u16; 256];
-    let mut next_key = [0u16; 257];
-    let mut previous_key = [0u16; 257];
-    let mut values = [0u64; 1024];
-    let mut key_index = [0u16; 1024];
-    let mut next_value = [0u16; 1025];
-    let mut previous_value = [0u16; 1025];
-    let mut next_index = [0u16; 1280];
-    let mut previous_index = [0u16; 1280];
-    let mut index = [0u16; 512];
-    let mut members = [0u16; 4];
-    let mut rounds = [0u16; 4];
-    let mut taken = 0u32;
-    sample(
-        &mut keys, &mut lengths, &mut next_key, &mut previous_key, &mut values, &mut key_index, &mut next_value, &mut previous_value,
-        &mut next_index, &mut previous_index, &mut index, &mut members, &mut rounds, &mut taken,
-    );
-    key_index[1] = 0;
-    next_index[0] = 1;
-    next_index[1] = 2;
-    previous_index[2] = 1;
-    previous_index[1] = 0;
-    lengths[0] = 3;
-    next_index[1025] = 1025;
-    previous_index[1025] = 1025;
-    lengths[1] = 0;
-    say(
-        b"a member without a round",
-        &keys, &lengths, &next_key, &previous_key, &values, &key_index, &next_value, &previous_value,
-        &next_index, &previous_index, &index, &members, &rounds, &taken,
-    );
 }
 
 // Damages the index, and the member numbers.
