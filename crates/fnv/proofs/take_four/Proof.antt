@@ -1,32 +1,18 @@
--- `fnv::take_four` meets its contract: the definition's own four steps. Assumes nothing.
+-- `fnv::take_four` meets its contract: two bytes, and the two above them. Assumes nothing.
+use mathlib.Core.Path.{refl}
 use borrow.Author.Needs.{needs}
-use Rattle.fnv.specs.Fnv.{step, fold, bytes}
+use Rattle.fnv.proofs.Twos.{two-more}
 use Rattle.fnv.proofs.take_four.Statement.{statement}
 use Rattle.fnv.proofs.take_four.Tie as tie
 
-take-byte-requires : tie.Need-take-byte-requires
-take-byte-requires c κs = search needs
+take-two-requires : tie.Need-take-two-requires
+take-two-requires c κs = search needs
 
-take-byte-requires-2 : tie.Need-take-byte-requires-2
-take-byte-requires-2 c κs = search needs
-
-take-byte-requires-3 : tie.Need-take-byte-requires-3
-take-byte-requires-3 c κs = search needs
-
-take-byte-requires-4 : tie.Need-take-byte-requires-4
-take-byte-requires-4 c κs = search needs
+take-two-requires-2 : tie.Need-take-two-requires-2
+take-two-requires-2 c κs = search needs
 
 returns : tie.Need-returns
-unfolding fold bytes
-returns c =
-    rw (c .take-byte4 .ensures, c .before .take-byte3 .ensures, c .before .before .take-byte2 .ensures, c .before .before .before .take-byte .ensures)
+returns c = two-more 2 _ _ _ _ (c .before .take-two .ensures) refl (c .take-two2 .ensures)
 
 pub take-four-spec : {M : Type 1} → statement M
-take-four-spec =
-    tie.close
-    (tie.spec
-    take-byte-requires
-    take-byte-requires-2
-    take-byte-requires-3
-    take-byte-requires-4
-    returns)
+take-four-spec = tie.close (tie.spec take-two-requires take-two-requires-2 returns)
