@@ -77,7 +77,7 @@ fn plain(op: Op, count: u64) -> Vec<Call> {
 }
 
 pub fn cases() -> Vec<Case> {
-    adding().into_iter().chain(taking_out()).chain(reading()).chain(over_all()).collect()
+    adding().into_iter().chain(taking_out()).chain(reading()).chain(spread_numbers()).chain(over_all()).collect()
 }
 
 fn adding() -> Vec<Case> {
@@ -136,6 +136,28 @@ fn reading() -> Vec<Case> {
         ),
         case("keys, 250", as_fast, filled(), repeated(100, |_| Call::lending(Op::Keys, 0, 0, 250))),
         case("iter, 1,000", as_fast, filled(), repeated(20, |_| Call::iter(1000, 1000))),
+    ]
+}
+
+// The same calls with member numbers over all 64 bits. Elsewhere they are below 1,024: the port hashes a number below 2^32 in
+// less time, and 250 numbers in a row all start at places of their own in its index.
+fn spread_numbers() -> Vec<Case> {
+    let spread = |calls: Vec<Call>| {
+        let number = |k: u64| k.wrapping_mul(0x9e37_79b9_7f4a_7c15);
+        calls.into_iter().map(|call| Call { k: number(call.k), ..call }).collect()
+    };
+    let case = |name, before, timed| {
+        let (before, timed) = (spread(before), spread(timed));
+        Case { group: "Member numbers over 64 bits", name, aim: Aim::Half, before, timed, maps: 1 }
+    };
+    vec![
+        case("append, known member, 64 bits", one_each(), each_thrice(Op::Append)),
+        case("append, new member, 64 bits", few_members(), each(Op::Append)),
+        case("insert over one round, 64 bits", one_each(), each(Op::Insert)),
+        case("insert, new member, 64 bits", few_members(), each(Op::Insert)),
+        case("pop_front, member gone, 64 bits", one_each(), plain(Op::PopFront, 250)),
+        case("pop_back, member gone, 64 bits", one_each(), plain(Op::PopBack, 250)),
+        case("get, 64 bits", filled(), half_absent(Op::Get)),
     ]
 }
 
