@@ -140,7 +140,7 @@ fn reading() -> Vec<Case> {
 }
 
 // The same calls with member numbers over all 64 bits. Elsewhere they are below 1,024: the port hashes a number below 2^32 in
-// less time, and 250 numbers in a row all start at places of their own in its index.
+// less time, and the numbers from 0 to 255 all start at places of their own in its index.
 fn spread_numbers() -> Vec<Case> {
     let spread = |calls: Vec<Call>| {
         let number = |k: u64| k.wrapping_mul(0x9e37_79b9_7f4a_7c15);

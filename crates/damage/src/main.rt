@@ -99,7 +99,7 @@ fn put_wide(a: &mut [u64], at: usize, v: u64) {
 }
 
 // Gives the round 20 to the first member, with every link and length of its record. The second member has no round.
-fn give_away(
+fn change_owner(
     lengths: &mut Lengths,
     key_index: &mut KeyIndex,
     next_index: &mut IndexLinks,
@@ -158,7 +158,7 @@ fn store(
             *taken = (v % 4294967296) as u32;
         }
         Array::None => {}
-        Array::Owner => give_away(lengths, key_index, next_index, previous_index),
+        Array::Owner => change_owner(lengths, key_index, next_index, previous_index),
         Array::All => empty(
             keys, lengths, next_key, previous_key, values, key_index, next_value, previous_value,
             next_index, previous_index, index, members, rounds, taken,
