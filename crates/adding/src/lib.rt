@@ -8,6 +8,7 @@ use multimap::KeyIndex;
 use multimap::KeyLinks;
 use multimap::Keys;
 use multimap::Lengths;
+use multimap::Taken;
 use multimap::ValueLinks;
 use multimap::Values;
 ghost use mathlib.Core.Path.{_≡_};
@@ -20,21 +21,25 @@ ghost use Rattle.multimap.specs.Lent.{lent, left};
 ghost use Rattle.multimap.specs.WellLinked.{WellLinked, linked};
 ghost use Rattle.adding.specs.Admitted.{Admitted};
 
-// Adds the round v of the member k at the back; a new member joins at the back. The answer is whether k was present.
+// Adds the round v of the member k at the back, for the poster; a new member joins at the back. The answer is whether k was present.
 #[no_mangle]
 #[rattlefmt::skip]
 pub extern "C" fn om_append(
     keys: &mut Keys, lengths: &mut Lengths, next_key: &mut KeyLinks, previous_key: &mut KeyLinks,
     values: &mut Values, key_index: &mut KeyIndex, next_value: &mut ValueLinks, previous_value: &mut ValueLinks,
     next_index: &mut IndexLinks, previous_index: &mut IndexLinks, index: &mut Index,
-    members: &mut Counts, rounds: &mut Counts, taken: &mut u32,
-    k: u64, v: u64, answer: &mut [u64; 4],
+    members: &mut Counts, rounds: &mut Counts, taken: &mut Taken,
+    poster: u64, k: u64, v: u64, answer: &mut [u64; 4],
 )
     ghost { Arrays }
     requires { λ α. ⌜ lent keys lengths «next_key» «previous_key» values «key_index» «next_value» «previous_value» «next_index» «previous_index» index members rounds taken ≡ α ⌝ }
     requires { λ α. ⌜ WellLinked α ⌝ }
-    ensures { λ α _. ⌜ Told linked (C.append k v) α (left keys lengths «next_key» «previous_key» values «key_index» «next_value» «previous_value» «next_index» «previous_index» index members rounds taken) [] [] (now (answer .exit)) ⌝ }
+    ensures { λ α _. ⌜ Told linked (C.append poster k v) α (left keys lengths «next_key» «previous_key» values «key_index» «next_value» «previous_value» «next_index» «previous_index» index members rounds taken) [] [] (now (answer .exit)) ⌝ }
 {
+    if multimap::no_poster(poster) {
+        answers::tell(answer, Answer::Refused(16));
+        return;
+    }
     let found = index::find(index, keys, k);
     match found {
         Found::At(_, key, _) => {
@@ -46,7 +51,7 @@ pub extern "C" fn om_append(
             }
             changing::add(
                 keys, lengths, next_key, previous_key, values, key_index, next_value, previous_value,
-                next_index, previous_index, index, members, rounds, taken, key, v,
+                next_index, previous_index, index, members, rounds, taken, poster, key, v,
             );
             answers::tell(answer, Answer::Present(true));
             return;
@@ -54,7 +59,7 @@ pub extern "C" fn om_append(
         Found::Absent(at, _) => {
             admit(
                 keys, lengths, next_key, previous_key, values, key_index, next_value, previous_value,
-                next_index, previous_index, index, members, rounds, taken, k, v, at, Answer::Present(false), answer,
+                next_index, previous_index, index, members, rounds, taken, poster, k, v, at, Answer::Present(false), answer,
             );
             return;
         }
@@ -67,12 +72,12 @@ pub fn admit(
     keys: &mut Keys, lengths: &mut Lengths, next_key: &mut KeyLinks, previous_key: &mut KeyLinks,
     values: &mut Values, key_index: &mut KeyIndex, next_value: &mut ValueLinks, previous_value: &mut ValueLinks,
     next_index: &mut IndexLinks, previous_index: &mut IndexLinks, index: &mut Index,
-    members: &mut Counts, rounds: &mut Counts, taken: &mut u32,
-    k: u64, v: u64, at: usize, welcome: Answer, answer: &mut [u64; 4],
+    members: &mut Counts, rounds: &mut Counts, taken: &mut Taken,
+    poster: u64, k: u64, v: u64, at: usize, welcome: Answer, answer: &mut [u64; 4],
 )
     ghost { Arrays }
     requires { λ α. ⌜ lent keys lengths «next_key» «previous_key» values «key_index» «next_value» «previous_value» «next_index» «previous_index» index members rounds taken ≡ α ⌝ }
-    ensures { λ α _. ⌜ Admitted α k v at (answerOf welcome) (left keys lengths «next_key» «previous_key» values «key_index» «next_value» «previous_value» «next_index» «previous_index» index members rounds taken) (now (answer .exit)) ⌝ }
+    ensures { λ α _. ⌜ Admitted α poster k v at (answerOf welcome) (left keys lengths «next_key» «previous_key» values «key_index» «next_value» «previous_value» «next_index» «previous_index» index members rounds taken) (now (answer .exit)) ⌝ }
 {
     let held = rounds[0];
     let most = rounds[3];
@@ -92,7 +97,7 @@ pub fn admit(
     );
     changing::add(
         keys, lengths, next_key, previous_key, values, key_index, next_value, previous_value,
-        next_index, previous_index, index, members, rounds, taken, key, v,
+        next_index, previous_index, index, members, rounds, taken, poster, key, v,
     );
     answers::tell(answer, welcome);
 }

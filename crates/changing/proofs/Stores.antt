@@ -1,9 +1,9 @@
 -- What the stores of the four changes make of the arrays, put together. Assumes nothing.
-use Prim.Native.Nat.{ℕ, _+_, _-_, min}
+use Prim.Native.Nat.{ℕ, _-_}
 use mathlib.Core.Path.{_≡_, subst}
 use mathlib.Core.List.{List}
 use lib.ListN.{set}
-use Rattle.steps.specs.State.{maxTaken}
+use Rattle.steps.specs.State.{counting}
 use Rattle.index.specs.Removal.{Removed}
 use Rattle.links.specs.Stores.{at, up, nextBack, previousBack, nextOut, previousOut, spot, taking, freeing}
 use Rattle.multimap.specs.Arrays.{Arrays, arrays}
@@ -18,14 +18,14 @@ module _ (a : Arrays) where
       → arrays ks ls nk pk (a .values) (a .«key_index») (a .«next_value») (a .«previous_value») ni pi t ms (a .rounds) (a .taken) ≡ withMember a k p
   member-stored k p x ms nk pk e ks ls ni pi t = rw (t, pi, ni, ls, ks, e, pk, nk, ms, x)
 
-  pub round-stored : (key v : ℕ) {x e n m u : ℕ} {rs nv pv ni pi vs ki ls : List ℕ}
+  pub round-stored : (poster key v : ℕ) {x e n m : ℕ} {rs nv pv ni pi vs ki ls t : List ℕ}
       → x ≡ spot (a .rounds) → rs ≡ taking (a .«next_value») (a .rounds) → e ≡ baseOf key
       → nv ≡ nextBack (a .«next_value») (a .«previous_value») 1024 x → pv ≡ previousBack (a .«previous_value») 1024 x
       → ni ≡ nextBack (a .«next_index») (a .«previous_index») e x → pi ≡ previousBack (a .«previous_index») e x
       → n ≡ at (a .lengths) key → m ≡ up n → vs ≡ set (a .values) x v → ki ≡ set (a .«key_index») x key → ls ≡ set (a .lengths) key m
-      → u ≡ min (a .taken + 1) maxTaken
-      → arrays (a .keys) ls (a .«next_key») (a .«previous_key») vs ki nv pv ni pi (a .index) (a .members) rs u ≡ withRound a key v
-  round-stored key v x rs e nv pv ni pi n m vs ki ls u = rw (u, ls, ki, vs, m, n, pi, ni, pv, nv, e, rs, x)
+      → t ≡ counting poster (a .taken)
+      → arrays (a .keys) ls (a .«next_key») (a .«previous_key») vs ki nv pv ni pi (a .index) (a .members) rs t ≡ withRound a poster key v
+  round-stored poster key v x rs e nv pv ni pi n m vs ki ls t = rw (t, ls, ki, vs, m, n, pi, ni, pv, nv, e, rs, x)
 
 module _ (a : Arrays) (x : ℕ) where
   pub round-struck : {key n m : ℕ} {nv₁ nv pv rs ni pi ls : List ℕ}

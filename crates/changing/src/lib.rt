@@ -10,12 +10,13 @@ use multimap::Keys;
 use multimap::Lengths;
 use multimap::MEMBERS;
 use multimap::ROUNDS;
+use multimap::Taken;
 use multimap::ValueLinks;
 use multimap::ValuePlace;
 use multimap::Values;
 ghost use mathlib.Core.Path.{_≡_};
 ghost use Prim.Native.Nat.{_+_, min};
-ghost use Rattle.steps.specs.State.{maxTaken};
+ghost use Rattle.steps.specs.State.{maxTaken, counting};
 ghost use Rattle.links.specs.Stores.{spot};
 ghost use Rattle.multimap.specs.Arrays.{Arrays};
 ghost use Rattle.multimap.specs.Lent.{lent, left};
@@ -27,7 +28,7 @@ pub fn join(
     keys: &mut Keys, lengths: &mut Lengths, next_key: &mut KeyLinks, previous_key: &mut KeyLinks,
     values: &mut Values, key_index: &mut KeyIndex, next_value: &mut ValueLinks, previous_value: &mut ValueLinks,
     next_index: &mut IndexLinks, previous_index: &mut IndexLinks, index: &mut Index,
-    members: &mut Counts, rounds: &mut Counts, taken: &mut u32,
+    members: &mut Counts, rounds: &mut Counts, taken: &mut Taken,
     k: u64, at: usize,
 ) -> KeyPlace
     ghost { Arrays }
@@ -46,18 +47,18 @@ pub fn join(
     key
 }
 
-// Adds the round v of the member place `key` at the back.
+// Adds the round v of the member place `key` at the back, and counts it for the poster; a number that is no poster's counts nowhere.
 #[rattlefmt::skip]
 pub fn add(
     keys: &mut Keys, lengths: &mut Lengths, next_key: &mut KeyLinks, previous_key: &mut KeyLinks,
     values: &mut Values, key_index: &mut KeyIndex, next_value: &mut ValueLinks, previous_value: &mut ValueLinks,
     next_index: &mut IndexLinks, previous_index: &mut IndexLinks, index: &mut Index,
-    members: &mut Counts, rounds: &mut Counts, taken: &mut u32,
-    key: KeyPlace, v: u64,
+    members: &mut Counts, rounds: &mut Counts, taken: &mut Taken,
+    poster: u64, key: KeyPlace, v: u64,
 )
     ghost { Arrays }
     requires { λ α. ⌜ lent keys lengths «next_key» «previous_key» values «key_index» «next_value» «previous_value» «next_index» «previous_index» index members rounds taken ≡ α ⌝ }
-    ensures { λ α _. ⌜ left keys lengths «next_key» «previous_key» values «key_index» «next_value» «previous_value» «next_index» «previous_index» index members rounds taken ≡ withRound α (key .0) v ⌝ }
+    ensures { λ α _. ⌜ left keys lengths «next_key» «previous_key» values «key_index» «next_value» «previous_value» «next_index» «previous_index» index members rounds taken ≡ withRound α poster (key .0) v ⌝ }
 {
     let k = key.0;
     let x = links::take(next_value, rounds);
@@ -69,8 +70,7 @@ pub fn add(
     links::put_wide(values, x, v);
     links::put(key_index, x, k);
     links::put(lengths, k, longer);
-    let before = *taken;
-    *taken = more(before);
+    count(taken, poster);
 }
 
 // Takes the round in the place x out of the list of rounds and of its member's chain; its place is free.
@@ -79,7 +79,7 @@ pub fn strike(
     keys: &mut Keys, lengths: &mut Lengths, next_key: &mut KeyLinks, previous_key: &mut KeyLinks,
     values: &mut Values, key_index: &mut KeyIndex, next_value: &mut ValueLinks, previous_value: &mut ValueLinks,
     next_index: &mut IndexLinks, previous_index: &mut IndexLinks, index: &mut Index,
-    members: &mut Counts, rounds: &mut Counts, taken: &mut u32,
+    members: &mut Counts, rounds: &mut Counts, taken: &mut Taken,
     x: ValuePlace,
 )
     ghost { Arrays }
@@ -102,7 +102,7 @@ pub fn part(
     keys: &mut Keys, lengths: &mut Lengths, next_key: &mut KeyLinks, previous_key: &mut KeyLinks,
     values: &mut Values, key_index: &mut KeyIndex, next_value: &mut ValueLinks, previous_value: &mut ValueLinks,
     next_index: &mut IndexLinks, previous_index: &mut IndexLinks, index: &mut Index,
-    members: &mut Counts, rounds: &mut Counts, taken: &mut u32,
+    members: &mut Counts, rounds: &mut Counts, taken: &mut Taken,
     key: KeyPlace,
 )
     ghost { Arrays }
@@ -122,7 +122,7 @@ pub fn leave(
     keys: &mut Keys, lengths: &mut Lengths, next_key: &mut KeyLinks, previous_key: &mut KeyLinks,
     values: &mut Values, key_index: &mut KeyIndex, next_value: &mut ValueLinks, previous_value: &mut ValueLinks,
     next_index: &mut IndexLinks, previous_index: &mut IndexLinks, index: &mut Index,
-    members: &mut Counts, rounds: &mut Counts, taken: &mut u32,
+    members: &mut Counts, rounds: &mut Counts, taken: &mut Taken,
     x: ValuePlace,
 ) -> bool
     ghost { Arrays }
@@ -143,6 +143,17 @@ pub fn leave(
         next_index, previous_index, index, members, rounds, taken, key,
     );
     true
+}
+
+// Counts one more round of the poster.
+fn count(taken: &mut [u32], poster: u64)
+    ensures { λ _. ⌜ now (taken .exit) ≡ counting poster (now (taken .entry)) ⌝ }
+{
+    let p = poster as usize;
+    if p < taken.len() {
+        let n = taken[p];
+        taken[p] = more(n);
+    }
 }
 
 // Counts one more round taken in, up to the ceiling.

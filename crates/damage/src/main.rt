@@ -7,6 +7,7 @@ use multimap::KeyIndex;
 use multimap::KeyLinks;
 use multimap::Keys;
 use multimap::Lengths;
+use multimap::Taken;
 use multimap::ValueLinks;
 use multimap::Values;
 ghost use Rattle.multimap.specs.Lent.{left};
@@ -54,7 +55,7 @@ fn sample(
     keys: &mut Keys, lengths: &mut Lengths, next_key: &mut KeyLinks, previous_key: &mut KeyLinks,
     values: &mut Values, key_index: &mut KeyIndex, next_value: &mut ValueLinks, previous_value: &mut ValueLinks,
     next_index: &mut IndexLinks, previous_index: &mut IndexLinks, index: &mut Index,
-    members: &mut Counts, rounds: &mut Counts, taken: &mut u32,
+    members: &mut Counts, rounds: &mut Counts, taken: &mut Taken,
 )
     ensures { λ _. ⌜ WellLinked (left keys lengths «next_key» «previous_key» values «key_index» «next_value» «previous_value» «next_index» «previous_index» index members rounds taken) ⌝ }
 {
@@ -65,19 +66,19 @@ fn sample(
     );
     adding::om_append(
         keys, lengths, next_key, previous_key, values, key_index, next_value, previous_value,
-        next_index, previous_index, index, members, rounds, taken, 7, 10, &mut answer,
+        next_index, previous_index, index, members, rounds, taken, 0, 7, 10, &mut answer,
     );
     adding::om_append(
         keys, lengths, next_key, previous_key, values, key_index, next_value, previous_value,
-        next_index, previous_index, index, members, rounds, taken, 9, 20, &mut answer,
+        next_index, previous_index, index, members, rounds, taken, 0, 9, 20, &mut answer,
     );
     adding::om_append(
         keys, lengths, next_key, previous_key, values, key_index, next_value, previous_value,
-        next_index, previous_index, index, members, rounds, taken, 7, 11, &mut answer,
+        next_index, previous_index, index, members, rounds, taken, 0, 7, 11, &mut answer,
     );
     adding::om_append(
         keys, lengths, next_key, previous_key, values, key_index, next_value, previous_value,
-        next_index, previous_index, index, members, rounds, taken, 5, 30, &mut answer,
+        next_index, previous_index, index, members, rounds, taken, 0, 5, 30, &mut answer,
     );
     removing::om_remove(
         keys, lengths, next_key, previous_key, values, key_index, next_value, previous_value,
@@ -95,6 +96,12 @@ fn put(a: &mut [u16], at: usize, v: u64) {
 fn put_wide(a: &mut [u64], at: usize, v: u64) {
     if at < a.len() {
         a[at] = v;
+    }
+}
+
+fn put_count(a: &mut [u32], at: usize, v: u64) {
+    if at < a.len() {
+        a[at] = (v % 4294967296) as u32;
     }
 }
 
@@ -122,7 +129,7 @@ fn empty(
     keys: &mut Keys, lengths: &mut Lengths, next_key: &mut KeyLinks, previous_key: &mut KeyLinks,
     values: &mut Values, key_index: &mut KeyIndex, next_value: &mut ValueLinks, previous_value: &mut ValueLinks,
     next_index: &mut IndexLinks, previous_index: &mut IndexLinks, index: &mut Index,
-    members: &mut Counts, rounds: &mut Counts, taken: &mut u32,
+    members: &mut Counts, rounds: &mut Counts, taken: &mut Taken,
 ) {
     let mut answer = [0u64; 4];
     packing::om_new(
@@ -137,7 +144,7 @@ fn store(
     keys: &mut Keys, lengths: &mut Lengths, next_key: &mut KeyLinks, previous_key: &mut KeyLinks,
     values: &mut Values, key_index: &mut KeyIndex, next_value: &mut ValueLinks, previous_value: &mut ValueLinks,
     next_index: &mut IndexLinks, previous_index: &mut IndexLinks, index: &mut Index,
-    members: &mut Counts, rounds: &mut Counts, taken: &mut u32,
+    members: &mut Counts, rounds: &mut Counts, taken: &mut Taken,
     array: Array, at: usize, v: u64,
 ) {
     match array {
@@ -154,9 +161,7 @@ fn store(
         Array::Index => put(index, at, v),
         Array::Members => put(members, at, v),
         Array::Rounds => put(rounds, at, v),
-        Array::Taken => {
-            *taken = (v % 4294967296) as u32;
-        }
+        Array::Taken => put_count(taken, at, v),
         Array::None => {}
         Array::Owner => change_owner(lengths, key_index, next_index, previous_index),
         Array::All => empty(
@@ -173,7 +178,7 @@ fn say<'a>(
     keys: &'a Keys, lengths: &'a Lengths, next_key: &'a KeyLinks, previous_key: &'a KeyLinks,
     values: &'a Values, key_index: &'a KeyIndex, next_value: &'a ValueLinks, previous_value: &'a ValueLinks,
     next_index: &'a IndexLinks, previous_index: &'a IndexLinks, index: &'a Index,
-    members: &'a Counts, rounds: &'a Counts, taken: &'a u32,
+    members: &'a Counts, rounds: &'a Counts, taken: &'a Taken,
 ) {
     io::write_all(STDOUT_FILENO, what);
     if well_linked::well_linked(
@@ -202,7 +207,7 @@ fn damaged(what: &[u8], array: Array, at: usize, v: u64) {
     let mut index = [0u16; 512];
     let mut members = [0u16; 4];
     let mut rounds = [0u16; 4];
-    let mut taken = 0u32;
+    let mut taken = [0u32; 16];
     sample(
         &mut keys, &mut lengths, &mut next_key, &mut previous_key, &mut values, &mut key_index, &mut next_value, &mut previous_value,
         &mut next_index, &mut previous_index, &mut index, &mut members, &mut rounds, &mut taken,
@@ -307,11 +312,12 @@ fn index_places() {
     damaged(b"keys[0] = 8", Array::Keys, 0, 8);
 }
 
-// Changes what a well-linked map may have as well: another round, any T, anything in a place that is not in use.
+// Changes what a well-linked map may have as well: another round, any counter of T, anything in a place that is not in use.
 fn no_damage() {
     damaged(b"values[0] = 99", Array::Values, 0, 99);
-    damaged(b"taken = 0", Array::Taken, 0, 0);
-    damaged(b"taken = 4294967295", Array::Taken, 0, 4294967295);
+    damaged(b"taken[0] = 0", Array::Taken, 0, 0);
+    damaged(b"taken[0] = 4294967295", Array::Taken, 0, 4294967295);
+    damaged(b"taken[15] = 7", Array::Taken, 15, 7);
     damaged(b"next_value[3] = 700", Array::NextValue, 3, 700);
     damaged(b"key_index[3] = 700", Array::KeyIndex, 3, 700);
     damaged(b"keys[2] = 7", Array::Keys, 2, 7);

@@ -4,20 +4,20 @@ use mathlib.Core.Path.{_≡_, refl, sym, ap, subst, _∙_}
 use mathlib.Core.Bool.{Bool, true, false, cond, true≢false}
 use mathlib.Core.List.{List, [], _∷_}
 use lib.ListN.{getD}
-use lib.Dec.{eqb}
+use lib.Dec.{eqb, ltb}
 use borrow.Author.Tests.{eq-eqb, ne-eqb}
 use denote.Enum.Declared.{tagOf}
 use types.Run.{OneOf, miss}
 use Rattle.steps.specs.State.{State, present, full, crowded}
 use Rattle.steps.specs.Call as C
-use Rattle.steps.specs.Call.{Call, Outcome, packs, lent}
-use Rattle.steps.specs.Step.{step, checks, act, say, refusing, entryOf}
+use Rattle.steps.specs.Call.{Call, Outcome, packs}
+use Rattle.steps.specs.Step.{step, checks, act, say, entryOf}
 use Rattle.steps.specs.Accounting.{isRefused}
 use Rattle.steps.specs.Coded.{coded, decoded}
 use Rattle.steps.specs.Trace.{Kind}
 use Rattle.steps.specs.Told.{Told}
 use Rattle.steps.proofs.Coded.{decoded-coded}
-use Rattle.steps.proofs.Doing.{does-refuse, does-as}
+use Rattle.steps.proofs.Doing.{does-as}
 use Rattle.answers.specs.Answers.{answerOf}
 use Rattle.answers.specs.declared.Answer.{Answer}
 use Rattle.answers.proofs.Answer.{the-type}
@@ -30,31 +30,31 @@ use Rattle.entries.specs.Done.{doneUnless, DoneUnless}
 abbrev quiet : Outcome × State → Outcome × State
 quiet r = (say (doneUnless (r .0 .answer)), r .1)
 
-module _ (k v : ℕ) (s : State) where
-  pub occupied-append-is : present k s ≡ true → step (C.occupied-append k v) s ≡ quiet (step (C.append k v) s)
+module _ (p k v : ℕ) (s : State) (known : ltb 15 p ≡ false) where
+  pub occupied-append-is : present k s ≡ true → step (C.occupied-append p k v) s ≡ quiet (step (C.append p k v) s)
   unfolding step checks act
-  occupied-append-is p = go (full s) refl
+  occupied-append-is h = go (full s) refl
     where
-      go : (f : Bool) → full s ≡ f → step (C.occupied-append k v) s ≡ quiet (step (C.append k v) s)
-      go true f = simp (p, f) refl
-      go false f = simp (p, f) refl
+      go : (f : Bool) → full s ≡ f → step (C.occupied-append p k v) s ≡ quiet (step (C.append p k v) s)
+      go true f = simp (known, h, f) refl
+      go false f = simp (known, h, f) refl
 
-  pub vacant-insert-is : present k s ≡ false → step (C.vacant-insert k v) s ≡ quiet (step (C.append k v) s)
+  pub vacant-insert-is : present k s ≡ false → step (C.vacant-insert p k v) s ≡ quiet (step (C.append p k v) s)
   unfolding step checks act
-  vacant-insert-is p = go (full s) (crowded s) refl refl
+  vacant-insert-is h = go (full s) (crowded s) refl refl
     where
-      go : (f c : Bool) → full s ≡ f → crowded s ≡ c → step (C.vacant-insert k v) s ≡ quiet (step (C.append k v) s)
-      go true c f g = simp (p, f) refl
-      go false true f g = simp (p, f, g) refl
-      go false false f g = simp (p, f, g) refl
+      go : (f c : Bool) → full s ≡ f → crowded s ≡ c → step (C.vacant-insert p k v) s ≡ quiet (step (C.append p k v) s)
+      go true c f g = simp (known, h, f) refl
+      go false true f g = simp (known, h, f, g) refl
+      go false false f g = simp (known, h, f, g) refl
 
-  pub occupied-insert-is : present k s ≡ true → step (C.insert k v) s ≡ step (C.occupied-insert k v) s
+  pub occupied-insert-is : present k s ≡ true → step (C.insert p k v) s ≡ step (C.occupied-insert p k v) s
   unfolding step checks act
-  occupied-insert-is p = rw (p, p) refl
+  occupied-insert-is h = rw (known, h, h) refl
 
-  pub occupied-remove-is : present k s ≡ true → step (C.remove k) s ≡ step (C.occupied-remove-entry k) s
-  unfolding step checks act
-  occupied-remove-is p = rw p refl
+pub occupied-remove-is : (k : ℕ) (s : State) → present k s ≡ true → step (C.remove k) s ≡ step (C.occupied-remove-entry k) s
+unfolding step checks act
+occupied-remove-is k s h = rw h refl
 
 -- ---- the answer of `entry`
 
@@ -130,11 +130,6 @@ still-refused a h = go (isRefused a) refl
     go false e = absurd (true≢false (sym h ∙ simp e))
 
 module _ {Map : Type 0} (M : Kind Map) (m : Map) where
-  pub told-refused : (c : Call) (n : ℕ) (ans : List ℕ) → M .Linked m → step c (M .abs m) ≡ (refusing c n, M .abs m) → ans ≡ coded (C.refused n)
-      → Told M c m m (lent c .out) (lent c .out2) ans
-  told-refused c n ans l e i =
-      record { outcome = refusing c n; does = does-refuse M c m n l e; out-is = refl; out2-is = refl; ans-is = i }
-
   module _ {c d : Call} {m′ : Map} {ans : List ℕ} (p : packs d ≡ false) (t : Told M c m m′ [] [] ans) where
     -- a call whose step is another's
     pub told-as : step c (M .abs m) ≡ step d (M .abs m) → Told M d m m′ [] [] ans

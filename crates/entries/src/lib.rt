@@ -8,6 +8,7 @@ use multimap::KeyIndex;
 use multimap::KeyLinks;
 use multimap::Keys;
 use multimap::Lengths;
+use multimap::Taken;
 use multimap::ValueLinks;
 use multimap::Values;
 ghost use mathlib.Core.Path.{_≡_};
@@ -26,14 +27,18 @@ pub extern "C" fn om_occupied_append(
     keys: &mut Keys, lengths: &mut Lengths, next_key: &mut KeyLinks, previous_key: &mut KeyLinks,
     values: &mut Values, key_index: &mut KeyIndex, next_value: &mut ValueLinks, previous_value: &mut ValueLinks,
     next_index: &mut IndexLinks, previous_index: &mut IndexLinks, index: &mut Index,
-    members: &mut Counts, rounds: &mut Counts, taken: &mut u32,
-    k: u64, v: u64, answer: &mut [u64; 4],
+    members: &mut Counts, rounds: &mut Counts, taken: &mut Taken,
+    poster: u64, k: u64, v: u64, answer: &mut [u64; 4],
 )
     ghost { Arrays }
     requires { λ α. ⌜ lent keys lengths «next_key» «previous_key» values «key_index» «next_value» «previous_value» «next_index» «previous_index» index members rounds taken ≡ α ⌝ }
     requires { λ α. ⌜ WellLinked α ⌝ }
-    ensures { λ α _. ⌜ Told linked (C.occupied-append k v) α (left keys lengths «next_key» «previous_key» values «key_index» «next_value» «previous_value» «next_index» «previous_index» index members rounds taken) [] [] (now (answer .exit)) ⌝ }
+    ensures { λ α _. ⌜ Told linked (C.occupied-append poster k v) α (left keys lengths «next_key» «previous_key» values «key_index» «next_value» «previous_value» «next_index» «previous_index» index members rounds taken) [] [] (now (answer .exit)) ⌝ }
 {
+    if multimap::no_poster(poster) {
+        answers::tell(answer, Answer::Refused(16));
+        return;
+    }
     let entry = reading::entry(keys, lengths, index, k);
     let Answer::Occupied(_) = entry else {
         answers::tell(answer, Answer::Refused(9));
@@ -41,7 +46,7 @@ pub extern "C" fn om_occupied_append(
     };
     adding::om_append(
         keys, lengths, next_key, previous_key, values, key_index, next_value, previous_value,
-        next_index, previous_index, index, members, rounds, taken, k, v, answer,
+        next_index, previous_index, index, members, rounds, taken, poster, k, v, answer,
     );
     tell_done(answer);
 }
@@ -53,14 +58,18 @@ pub extern "C" fn om_occupied_insert(
     keys: &mut Keys, lengths: &mut Lengths, next_key: &mut KeyLinks, previous_key: &mut KeyLinks,
     values: &mut Values, key_index: &mut KeyIndex, next_value: &mut ValueLinks, previous_value: &mut ValueLinks,
     next_index: &mut IndexLinks, previous_index: &mut IndexLinks, index: &mut Index,
-    members: &mut Counts, rounds: &mut Counts, taken: &mut u32,
-    k: u64, v: u64, answer: &mut [u64; 4],
+    members: &mut Counts, rounds: &mut Counts, taken: &mut Taken,
+    poster: u64, k: u64, v: u64, answer: &mut [u64; 4],
 )
     ghost { Arrays }
     requires { λ α. ⌜ lent keys lengths «next_key» «previous_key» values «key_index» «next_value» «previous_value» «next_index» «previous_index» index members rounds taken ≡ α ⌝ }
     requires { λ α. ⌜ WellLinked α ⌝ }
-    ensures { λ α _. ⌜ Told linked (C.occupied-insert k v) α (left keys lengths «next_key» «previous_key» values «key_index» «next_value» «previous_value» «next_index» «previous_index» index members rounds taken) [] [] (now (answer .exit)) ⌝ }
+    ensures { λ α _. ⌜ Told linked (C.occupied-insert poster k v) α (left keys lengths «next_key» «previous_key» values «key_index» «next_value» «previous_value» «next_index» «previous_index» index members rounds taken) [] [] (now (answer .exit)) ⌝ }
 {
+    if multimap::no_poster(poster) {
+        answers::tell(answer, Answer::Refused(16));
+        return;
+    }
     let entry = reading::entry(keys, lengths, index, k);
     let Answer::Occupied(_) = entry else {
         answers::tell(answer, Answer::Refused(9));
@@ -68,7 +77,7 @@ pub extern "C" fn om_occupied_insert(
     };
     inserting::om_insert(
         keys, lengths, next_key, previous_key, values, key_index, next_value, previous_value,
-        next_index, previous_index, index, members, rounds, taken, k, v, answer,
+        next_index, previous_index, index, members, rounds, taken, poster, k, v, answer,
     );
 }
 
@@ -79,7 +88,7 @@ pub extern "C" fn om_occupied_remove_entry(
     keys: &mut Keys, lengths: &mut Lengths, next_key: &mut KeyLinks, previous_key: &mut KeyLinks,
     values: &mut Values, key_index: &mut KeyIndex, next_value: &mut ValueLinks, previous_value: &mut ValueLinks,
     next_index: &mut IndexLinks, previous_index: &mut IndexLinks, index: &mut Index,
-    members: &mut Counts, rounds: &mut Counts, taken: &mut u32,
+    members: &mut Counts, rounds: &mut Counts, taken: &mut Taken,
     k: u64, answer: &mut [u64; 4],
 )
     ghost { Arrays }
@@ -105,14 +114,18 @@ pub extern "C" fn om_vacant_insert(
     keys: &mut Keys, lengths: &mut Lengths, next_key: &mut KeyLinks, previous_key: &mut KeyLinks,
     values: &mut Values, key_index: &mut KeyIndex, next_value: &mut ValueLinks, previous_value: &mut ValueLinks,
     next_index: &mut IndexLinks, previous_index: &mut IndexLinks, index: &mut Index,
-    members: &mut Counts, rounds: &mut Counts, taken: &mut u32,
-    k: u64, v: u64, answer: &mut [u64; 4],
+    members: &mut Counts, rounds: &mut Counts, taken: &mut Taken,
+    poster: u64, k: u64, v: u64, answer: &mut [u64; 4],
 )
     ghost { Arrays }
     requires { λ α. ⌜ lent keys lengths «next_key» «previous_key» values «key_index» «next_value» «previous_value» «next_index» «previous_index» index members rounds taken ≡ α ⌝ }
     requires { λ α. ⌜ WellLinked α ⌝ }
-    ensures { λ α _. ⌜ Told linked (C.vacant-insert k v) α (left keys lengths «next_key» «previous_key» values «key_index» «next_value» «previous_value» «next_index» «previous_index» index members rounds taken) [] [] (now (answer .exit)) ⌝ }
+    ensures { λ α _. ⌜ Told linked (C.vacant-insert poster k v) α (left keys lengths «next_key» «previous_key» values «key_index» «next_value» «previous_value» «next_index» «previous_index» index members rounds taken) [] [] (now (answer .exit)) ⌝ }
 {
+    if multimap::no_poster(poster) {
+        answers::tell(answer, Answer::Refused(16));
+        return;
+    }
     let entry = reading::entry(keys, lengths, index, k);
     let Answer::Vacant(_) = entry else {
         answers::tell(answer, Answer::Refused(10));
@@ -120,7 +133,7 @@ pub extern "C" fn om_vacant_insert(
     };
     adding::om_append(
         keys, lengths, next_key, previous_key, values, key_index, next_value, previous_value,
-        next_index, previous_index, index, members, rounds, taken, k, v, answer,
+        next_index, previous_index, index, members, rounds, taken, poster, k, v, answer,
     );
     tell_done(answer);
 }

@@ -44,8 +44,8 @@ firsts-append : (met : List ℕ) (ps qs : List Pair) → firsts met (ps ++ qs) �
 firsts-append met [] qs = refl
 firsts-append met (p ∷ ps) qs = firsts-append (cond (any (eqb (p .key)) met) met (met ++ (p .key ∷ []))) ps qs
 
--- one pair more
-start-add : (l : Limits) (ps : List Pair) (k v : ℕ) → length ps < maxRounds → start l (ps ++ (k ∶ v ∷ [])) ≡ add k v (start l ps)
+-- one pair more, which the poster 0 adds
+start-add : (l : Limits) (ps : List Pair) (k v : ℕ) → length ps < maxRounds → start l (ps ++ (k ∶ v ∷ [])) ≡ add 0 k v (start l ps)
 start-add l ps k v h =
     let t : length (ps ++ (k ∶ v ∷ [])) ≡ min (length ps + 1) 4294967295 = omega (arith, length-append ps (k ∶ v ∷ [])) in
     rw (firsts-append [] ps (k ∶ v ∷ []), t)
@@ -72,30 +72,30 @@ firsts-many l ps qs k v a c =
         rw (firsts-append [] ps (k ∶ v ∷ qs), e)
         (omega (arith, leb-true (l .members) (length (firsts [] ps)) c, firsts-more (firsts [] ps ++ (k ∷ [])) qs, length-append (firsts [] ps) (k ∷ [])))
 
--- ---- what an append does where there is room for a round
+-- ---- what an append of the poster 0 does where there is room for a round
 
 data Appended (k v : ℕ) (s : State) : Outcome × State → Type 0 where
-  taken : Appended k v s (say (present (St.present k s)), add k v s)
-  crowd : St.absent k s ≡ true → crowded s ≡ true → Appended k v s (refusing (append k v) 2, s)
+  taken : Appended k v s (say (present (St.present k s)), add 0 k v s)
+  crowd : St.absent k s ≡ true → crowded s ≡ true → Appended k v s (refusing (append 0 k v) 2, s)
 
 settled : (k v : ℕ) (s : State) (a c : Bool) → St.absent k s ≡ a → crowded s ≡ c
-    → Appended k v s (settle (refusal ((a && c, 2) ∷ [])) (append k v) s)
+    → Appended k v s (settle (refusal ((a && c, 2) ∷ [])) (append 0 k v) s)
 unfolding act
 settled k v s true true e f = crowd e f
 settled k v s true false e f = taken
 settled k v s false c e f = taken
 
-appended : (k v : ℕ) (s : State) → full s ≡ false → Appended k v s (step (append k v) s)
+appended : (k v : ℕ) (s : State) → full s ≡ false → Appended k v s (step (append 0 k v) s)
 unfolding step checks
 appended k v s f = rw f (settled k v s (St.absent k s) (crowded s) refl refl)
 
 -- the map that it leaves, and whether the answer is a refusal
 data Left (k v : ℕ) (m r : Arrays) (ans : List ℕ) : Type 0 where
-  added : at ans 0 ≢ 0 → stateOf r ≡ add k v (stateOf m) → Left k v m r ans
+  added : at ans 0 ≢ 0 → stateOf r ≡ add 0 k v (stateOf m) → Left k v m r ans
   stuck : at ans 0 ≡ 0 → St.absent k (stateOf m) ≡ true → crowded (stateOf m) ≡ true → Left k v m r ans
 
-left : (k v : ℕ) (m r : Arrays) (ans : List ℕ) → full (stateOf m) ≡ false → Told linked (append k v) m r [] [] ans → Left k v m r ans
-left k v m r ans f t = go (step (append k v) (stateOf m)) (appended k v (stateOf m) f) (t .does .outcome) (t .does .state)
+left : (k v : ℕ) (m r : Arrays) (ans : List ℕ) → full (stateOf m) ≡ false → Told linked (append 0 k v) m r [] [] ans → Left k v m r ans
+left k v m r ans f t = go (step (append 0 k v) (stateOf m)) (appended k v (stateOf m) f) (t .does .outcome) (t .does .state)
   where
     first : (a : Answer) → t .outcome .answer ≡ a → at ans 0 ≡ at (coded a) 0
     first a e = ap (λ (l : List ℕ). at l 0) (t .ans-is ∙ ap coded e)
@@ -125,7 +125,7 @@ module _ (l : Limits) (ks vs : List ℕ) where
       building-all h = (b .linked, b .state ∙ ap (start l) (take-all i (pairUp ks vs) (omega (arith, many))))
 
       module _ (h : i < length ks) (k v : ℕ) (ek : k ≡ getD ks i 0) (ev : v ≡ getD vs i 0) (r : Arrays) (ans : List ℕ)
-          (t : Told linked (append k v) m r [] [] ans) where
+          (t : Told linked (append 0 k v) m r [] [] ans) where
         abbrev ps : List Pair
         ps = take i (pairUp ks vs)
 
@@ -150,7 +150,7 @@ module _ (l : Limits) (ks vs : List ℕ) where
                   some = omega arith;
                   linked = t .does .linked;
                   state =
-                      e ∙ ap (add k v) (b .state) ∙ sym (start-add l ps k v (omega (arith, so-many))) ∙ ap (start l) (sym one-more)
+                      e ∙ ap (add 0 k v) (b .state) ∙ sym (start-add l ps k v (omega (arith, so-many))) ∙ ap (start l) (sym one-more)
                       ∙ ap (λ (j : ℕ). start l (take j (pairUp ks vs))) (sym (add-one i));
                 }
             go (stuck z a c) = absurd (n z)

@@ -15,6 +15,7 @@ use lib.Seq.{drop-at, drop-drop, take-all}
 use Rattle.fnv.specs.Fnv.{bytes}
 use Rattle.steps.specs.State.{State, Limits, limit, Pair, empty}
 use Rattle.steps.specs.Marked.{firsts, start}
+use Rattle.steps.specs.Marked as Marked
 use Rattle.steps.specs.Call.{Answer, refused, done}
 use Rattle.steps.specs.Coded.{coded}
 use Rattle.steps.specs.Step.{refusal, tooHigh, makeOf}
@@ -111,7 +112,7 @@ written-read l ok s w few few-members counted =
     (omega (arith, length-image s, n)) (m ∙ counted ∙ ap (λ (l : List Pair). length (firsts [] l)) (sym p))
     ∙ ap (λ (ps : List Pair). (done, start l ps)) p
 
--- of a map: the same P, K in order of first appearance in P, and T is the number of rounds
+-- of a map: the same P, K in order of first appearance in P, and in T all of its rounds are the poster 0's
 pub map-read-back : (l : Limits) → Allowed l → (m : Arrays) → WellLinked m → Words (pairs m) → length (pairs m) ≤ l .rounds
     → length (members m) ≤ l .members → readOf l (imageOf (stateOf m)) ≡ (done, start l (pairs m))
 map-read-back l ok m g w few few-members = written-read l ok (stateOf m) w few few-members (members-counted m g)
@@ -208,6 +209,10 @@ accepted-exactly l s = (accepts l s, λ a. ap (λ (r : Answer × State). r .0) (
 
 pub accepted-pairs : (l : Limits) (s : List ℕ) → readOf l s .0 ≡ done → readOf l s .1 ≡ start l (pairsIn s)
 accepted-pairs l s e = ap (λ (r : Answer × State). r .1) (accepted-read l s (accepts l s e))
+
+-- all of its rounds are the poster 0's, whose counter is the number of pairs; every other counter is 0 (document 02, No. 2)
+pub restored-by-0 : (l : Limits) (s : List ℕ) → readOf l s .0 ≡ done → readOf l s .1 .taken ≡ Marked.restored (length (readOf l s .1 .pairs))
+restored-by-0 l s e = rw (accepted-pairs l s e) refl
 
 -- four parts, one after the other
 parts : (s : List ℕ) (k : ℕ) → length s ≡ 8 + k + k → take 4 s ++ (take 4 (drop 4 s) ++ (take k (drop 8 s) ++ take k (drop (8 + k) s))) ≡ s

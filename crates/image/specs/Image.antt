@@ -61,7 +61,8 @@ reading l s =
     ∷ (not (eqb (membersSaid s) (length (firsts [] (pairsIn s)))), 14)
     ∷ [])
 
--- a refused reading gives the new map with these limits; any other the pairs, the members in order of first appearance, and T as the number of pairs
+-- a refused reading gives the new map with these limits; any other the pairs, the members in order of first appearance, and T with all of the
+-- pairs the poster 0's (document 02, No. 2)
 abbrev pub restored : Option ℕ → Limits → List ℕ → Answer × State
 restored (some n) l s = (refused n, makeOf l .1)
 restored Opt.none l s = (done, start l (pairsIn s))

@@ -9,6 +9,7 @@ use multimap::KeyLinks;
 use multimap::Keys;
 use multimap::Lengths;
 use multimap::ROUNDS;
+use multimap::Taken;
 use multimap::ValueLinks;
 use multimap::Values;
 ghost use mathlib.Core.Path.{_≡_};
@@ -58,7 +59,7 @@ pub extern "C" fn om_read_image(
     keys: &mut Keys, lengths: &mut Lengths, next_key: &mut KeyLinks, previous_key: &mut KeyLinks,
     values: &mut Values, key_index: &mut KeyIndex, next_value: &mut ValueLinks, previous_value: &mut ValueLinks,
     next_index: &mut IndexLinks, previous_index: &mut IndexLinks, index: &mut Index,
-    members: &mut Counts, rounds: &mut Counts, taken: &mut u32,
+    members: &mut Counts, rounds: &mut Counts, taken: &mut Taken,
     members_limit: u64, rounds_limit: u64, bytes: &[u8], answer: &mut [u64; 4],
 )
     ensures { λ _. ⌜ Restores (limit «members_limit» «rounds_limit») (now (bytes .entry)) (left keys lengths «next_key» «previous_key» values «key_index» «next_value» «previous_value» «next_index» «previous_index» index members rounds taken) (now (answer .exit)) ⌝ }
@@ -173,7 +174,7 @@ fn restore(
     keys: &mut Keys, lengths: &mut Lengths, next_key: &mut KeyLinks, previous_key: &mut KeyLinks,
     values: &mut Values, key_index: &mut KeyIndex, next_value: &mut ValueLinks, previous_value: &mut ValueLinks,
     next_index: &mut IndexLinks, previous_index: &mut IndexLinks, index: &mut Index,
-    members: &mut Counts, rounds: &mut Counts, taken: &mut u32,
+    members: &mut Counts, rounds: &mut Counts, taken: &mut Taken,
     s: &[u8], n: usize, m: u64,
 ) -> bool
     ghost { Arrays }
@@ -197,7 +198,7 @@ fn append_all(
     keys: &mut Keys, lengths: &mut Lengths, next_key: &mut KeyLinks, previous_key: &mut KeyLinks,
     values: &mut Values, key_index: &mut KeyIndex, next_value: &mut ValueLinks, previous_value: &mut ValueLinks,
     next_index: &mut IndexLinks, previous_index: &mut IndexLinks, index: &mut Index,
-    members: &mut Counts, rounds: &mut Counts, taken: &mut u32,
+    members: &mut Counts, rounds: &mut Counts, taken: &mut Taken,
     ks: &[u64], vs: &[u64],
 ) -> bool
     ghost { Arrays }
@@ -212,7 +213,7 @@ fn append_all(
         let v = vs[i];
         adding::om_append(
             keys, lengths, next_key, previous_key, values, key_index, next_value, previous_value,
-            next_index, previous_index, index, members, rounds, taken, k, v, &mut answer,
+            next_index, previous_index, index, members, rounds, taken, 0, k, v, &mut answer,
         );
         if answer[0] == 0 {
             return false;

@@ -8,6 +8,7 @@ use multimap::Counts;
 use multimap::KeyIndex;
 use multimap::KeyLinks;
 use multimap::Keys;
+use multimap::Taken;
 use multimap::ValueLinks;
 use multimap::Values;
 
@@ -53,13 +54,26 @@ fn print_members<'a>(keys: &'a Keys, next_key: &'a KeyLinks, members: &'a Counts
     let mut first = [0u64; 256];
     let mut told = [0u64; 4];
     reading::om_keys(keys, next_key, members, &mut first, &mut told);
-    let n = told[1];
     io::write_all(STDOUT_FILENO, b" keys");
-    for i in 0..256 {
-        if (i as u64) < n {
-            io::write_all(STDOUT_FILENO, b" ");
-            io::print_decimal(STDOUT_FILENO, first[i]);
-        }
+    print_front(&first, told[1]);
+}
+
+// Prints the counter of each poster.
+fn print_taken(taken: &Taken) {
+    let mut counters = [0u64; 16];
+    let mut told = [0u64; 4];
+    reading::write_counters(taken, &mut counters, &mut told);
+    io::write_all(STDOUT_FILENO, b" taken");
+    print_front(&counters, told[1]);
+}
+
+// Prints the first n of the numbers, a space before each.
+fn print_front(numbers: &[u64], n: u64) {
+    let mut i = 0;
+    while i < numbers.len() && (i as u64) < n {
+        io::write_all(STDOUT_FILENO, b" ");
+        io::print_decimal(STDOUT_FILENO, numbers[i]);
+        i += 1;
     }
 }
 
@@ -127,7 +141,7 @@ fn show(s: &[u8], members_limit: u64, rounds_limit: u64) {
     let mut index = [0u16; 512];
     let mut members = [0u16; 4];
     let mut rounds = [0u16; 4];
-    let mut taken = 0u32;
+    let mut taken = [0u32; 16];
     let mut told = [0u64; 4];
     image::om_read_image(
         &mut keys, &mut lengths, &mut next_key, &mut previous_key, &mut values, &mut key_index, &mut next_value,
@@ -143,8 +157,7 @@ fn show(s: &[u8], members_limit: u64, rounds_limit: u64) {
     }
     print_pairs(&keys, &values, &key_index, &next_value, &rounds);
     print_members(&keys, &next_key, &members);
-    io::write_all(STDOUT_FILENO, b" taken ");
-    io::print_decimal(STDOUT_FILENO, taken as u64);
+    print_taken(&taken);
     print_limits(&members, &rounds);
     print_image(&keys, &values, &key_index, &next_value, &members, &rounds, s);
 }

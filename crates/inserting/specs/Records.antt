@@ -8,6 +8,6 @@ use Rattle.multimap.specs.Changes.{baseOf, withRound, strikes}
 abbrev pub withoutRecord : Arrays → ℕ → Arrays
 withoutRecord a key = strikes (at (a .lengths) key) (at (a .«next_index») (baseOf key)) a
 
--- and v is its only round
-abbrev pub withOnly : Arrays → ℕ → ℕ → Arrays
-withOnly a key v = withRound (withoutRecord a key) key v
+-- and v is its only round, counted for the poster
+abbrev pub withOnly : Arrays → ℕ → ℕ → ℕ → Arrays
+withOnly a poster key v = withRound (withoutRecord a key) poster key v

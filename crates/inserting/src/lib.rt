@@ -9,6 +9,7 @@ use multimap::KeyIndex;
 use multimap::KeyLinks;
 use multimap::Keys;
 use multimap::Lengths;
+use multimap::Taken;
 use multimap::ValueLinks;
 use multimap::Values;
 ghost use mathlib.Core.Path.{_≡_};
@@ -27,14 +28,18 @@ pub extern "C" fn om_insert(
     keys: &mut Keys, lengths: &mut Lengths, next_key: &mut KeyLinks, previous_key: &mut KeyLinks,
     values: &mut Values, key_index: &mut KeyIndex, next_value: &mut ValueLinks, previous_value: &mut ValueLinks,
     next_index: &mut IndexLinks, previous_index: &mut IndexLinks, index: &mut Index,
-    members: &mut Counts, rounds: &mut Counts, taken: &mut u32,
-    k: u64, v: u64, answer: &mut [u64; 4],
+    members: &mut Counts, rounds: &mut Counts, taken: &mut Taken,
+    poster: u64, k: u64, v: u64, answer: &mut [u64; 4],
 )
     ghost { Arrays }
     requires { λ α. ⌜ lent keys lengths «next_key» «previous_key» values «key_index» «next_value» «previous_value» «next_index» «previous_index» index members rounds taken ≡ α ⌝ }
     requires { λ α. ⌜ WellLinked α ⌝ }
-    ensures { λ α _. ⌜ Told linked (C.insert k v) α (left keys lengths «next_key» «previous_key» values «key_index» «next_value» «previous_value» «next_index» «previous_index» index members rounds taken) [] [] (now (answer .exit)) ⌝ }
+    ensures { λ α _. ⌜ Told linked (C.insert poster k v) α (left keys lengths «next_key» «previous_key» values «key_index» «next_value» «previous_value» «next_index» «previous_index» index members rounds taken) [] [] (now (answer .exit)) ⌝ }
 {
+    if multimap::no_poster(poster) {
+        answers::tell(answer, Answer::Refused(16));
+        return;
+    }
     let found = index::find(index, keys, k);
     match found {
         Found::At(_, key, _) => {
@@ -42,7 +47,7 @@ pub extern "C" fn om_insert(
             let first = multimap::round(values, head);
             replace(
                 keys, lengths, next_key, previous_key, values, key_index, next_value, previous_value,
-                next_index, previous_index, index, members, rounds, taken, key, v,
+                next_index, previous_index, index, members, rounds, taken, poster, key, v,
             );
             answers::tell(answer, Answer::Round(first));
             return;
@@ -50,7 +55,7 @@ pub extern "C" fn om_insert(
         Found::Absent(at, _) => {
             adding::admit(
                 keys, lengths, next_key, previous_key, values, key_index, next_value, previous_value,
-                next_index, previous_index, index, members, rounds, taken, k, v, at, Answer::Nothing, answer,
+                next_index, previous_index, index, members, rounds, taken, poster, k, v, at, Answer::Nothing, answer,
             );
             return;
         }
@@ -63,12 +68,12 @@ pub fn replace(
     keys: &mut Keys, lengths: &mut Lengths, next_key: &mut KeyLinks, previous_key: &mut KeyLinks,
     values: &mut Values, key_index: &mut KeyIndex, next_value: &mut ValueLinks, previous_value: &mut ValueLinks,
     next_index: &mut IndexLinks, previous_index: &mut IndexLinks, index: &mut Index,
-    members: &mut Counts, rounds: &mut Counts, taken: &mut u32,
-    key: KeyPlace, v: u64,
+    members: &mut Counts, rounds: &mut Counts, taken: &mut Taken,
+    poster: u64, key: KeyPlace, v: u64,
 )
     ghost { Arrays }
     requires { λ α. ⌜ lent keys lengths «next_key» «previous_key» values «key_index» «next_value» «previous_value» «next_index» «previous_index» index members rounds taken ≡ α ⌝ }
-    ensures { λ α _. ⌜ left keys lengths «next_key» «previous_key» values «key_index» «next_value» «previous_value» «next_index» «previous_index» index members rounds taken ≡ withOnly α (key .0) v ⌝ }
+    ensures { λ α _. ⌜ left keys lengths «next_key» «previous_key» values «key_index» «next_value» «previous_value» «next_index» «previous_index» index members rounds taken ≡ withOnly α poster (key .0) v ⌝ }
 {
     empty(
         keys, lengths, next_key, previous_key, values, key_index, next_value, previous_value,
@@ -76,7 +81,7 @@ pub fn replace(
     );
     changing::add(
         keys, lengths, next_key, previous_key, values, key_index, next_value, previous_value,
-        next_index, previous_index, index, members, rounds, taken, key, v,
+        next_index, previous_index, index, members, rounds, taken, poster, key, v,
     );
 }
 
@@ -86,7 +91,7 @@ pub fn empty(
     keys: &mut Keys, lengths: &mut Lengths, next_key: &mut KeyLinks, previous_key: &mut KeyLinks,
     values: &mut Values, key_index: &mut KeyIndex, next_value: &mut ValueLinks, previous_value: &mut ValueLinks,
     next_index: &mut IndexLinks, previous_index: &mut IndexLinks, index: &mut Index,
-    members: &mut Counts, rounds: &mut Counts, taken: &mut u32,
+    members: &mut Counts, rounds: &mut Counts, taken: &mut Taken,
     key: KeyPlace,
 )
     ghost { Arrays }

@@ -9,6 +9,7 @@ use multimap::KeyIndex;
 use multimap::KeyLinks;
 use multimap::Keys;
 use multimap::Lengths;
+use multimap::Taken;
 use multimap::ValueLinks;
 use multimap::Values;
 ghost use mathlib.Core.Path.{_≡_};
@@ -27,14 +28,18 @@ pub extern "C" fn om_insert_all(
     keys: &mut Keys, lengths: &mut Lengths, next_key: &mut KeyLinks, previous_key: &mut KeyLinks,
     values: &mut Values, key_index: &mut KeyIndex, next_value: &mut ValueLinks, previous_value: &mut ValueLinks,
     next_index: &mut IndexLinks, previous_index: &mut IndexLinks, index: &mut Index,
-    members: &mut Counts, rounds: &mut Counts, taken: &mut u32,
-    k: u64, v: u64, out: &mut [u64], answer: &mut [u64; 4],
+    members: &mut Counts, rounds: &mut Counts, taken: &mut Taken,
+    poster: u64, k: u64, v: u64, out: &mut [u64], answer: &mut [u64; 4],
 )
     ghost { Arrays }
     requires { λ α. ⌜ lent keys lengths «next_key» «previous_key» values «key_index» «next_value» «previous_value» «next_index» «previous_index» index members rounds taken ≡ α ⌝ }
     requires { λ α. ⌜ WellLinked α ⌝ }
-    ensures { λ α _. ⌜ Told linked (C.insert-all k v (now (out .entry))) α (left keys lengths «next_key» «previous_key» values «key_index» «next_value» «previous_value» «next_index» «previous_index» index members rounds taken) (now (out .exit)) [] (now (answer .exit)) ⌝ }
+    ensures { λ α _. ⌜ Told linked (C.insert-all poster k v (now (out .entry))) α (left keys lengths «next_key» «previous_key» values «key_index» «next_value» «previous_value» «next_index» «previous_index» index members rounds taken) (now (out .exit)) [] (now (answer .exit)) ⌝ }
 {
+    if multimap::no_poster(poster) {
+        answers::tell(answer, Answer::Refused(16));
+        return;
+    }
     let found = index::find(index, keys, k);
     match found {
         Found::At(_, key, _) => {
@@ -47,7 +52,7 @@ pub extern "C" fn om_insert_all(
             let count = copying::copy(values, next_index, head.0, n, out);
             inserting::replace(
                 keys, lengths, next_key, previous_key, values, key_index, next_value, previous_value,
-                next_index, previous_index, index, members, rounds, taken, key, v,
+                next_index, previous_index, index, members, rounds, taken, poster, key, v,
             );
             answers::tell(answer, count);
             return;
@@ -55,7 +60,7 @@ pub extern "C" fn om_insert_all(
         Found::Absent(at, _) => {
             adding::admit(
                 keys, lengths, next_key, previous_key, values, key_index, next_value, previous_value,
-                next_index, previous_index, index, members, rounds, taken, k, v, at, Answer::Count(0), answer,
+                next_index, previous_index, index, members, rounds, taken, poster, k, v, at, Answer::Count(0), answer,
             );
             return;
         }

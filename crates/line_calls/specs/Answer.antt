@@ -20,9 +20,10 @@ blank = replicate 1024 0
 abbrev pub reply : (Lent → ℕ → List ℕ) → Outcome × State → List ℕ × State
 reply counted d = (textOf (counted (d .0 .slices)) (d .0 .answer), d .1)
 
+-- what a line asks, on a state. Its adding calls post as 0
 unfoldable pub answerOf : Line → State → List ℕ × State
-answerOf (adds k v) s = reply kept (step (C.append k v) s)
-answerOf (inserts k v) s = reply old (step (C.insert-all k v blank) s)
+answerOf (adds k v) s = reply kept (step (C.append 0 k v) s)
+answerOf (inserts k v) s = reply old (step (C.insert-all 0 k v blank) s)
 answerOf (removes k) s = reply old (step (C.remove-all k blank) s)
 answerOf front s = reply kept (step C.pop-front s)
 answerOf back s = reply kept (step C.pop-back s)
@@ -37,8 +38,8 @@ refuses c s = isRefused (step c s .0 .answer)
 
 -- whether a line leaves the very map: its call is refused or only reads, or it makes none
 unfoldable pub idle : Line → State → Bool
-idle (adds k v) s = refuses (C.append k v) s
-idle (inserts k v) s = refuses (C.insert-all k v blank) s
+idle (adds k v) s = refuses (C.append 0 k v) s
+idle (inserts k v) s = refuses (C.insert-all 0 k v blank) s
 idle (removes k) s = refuses (C.remove-all k blank) s
 idle front s = refuses C.pop-front s
 idle back s = refuses C.pop-back s

@@ -39,11 +39,11 @@ module _ (a : Arrays) (s : Sized a) where
       cell : baseOf (spot (a .members)) ≡ 1024 + spot (a .members)
       cell = base-is (spot (a .members)) fits
 
-  pub round-links : (key v : ℕ) → spot (a .rounds) < 1024 → key < 256 → at (a .«previous_value») 1024 ≤ 1024 → at (a .«previous_index») (1024 + key) < 1280
-      → at (a .lengths) key < 1024 → at (a .rounds) 0 < 1024 → at (a .rounds) 1 ≤ 1024 → linksOf (withRound a key v) ≡ added (linksOf a) key
-  round-links key v place fits back tail size len fresh =
-      links-eq (linksOf (withRound a key v)) _
-      (places-eq (roundsOf (withRound a key v)) _
+  pub round-links : (poster key v : ℕ) → spot (a .rounds) < 1024 → key < 256 → at (a .«previous_value») 1024 ≤ 1024 → at (a .«previous_index») (1024 + key) < 1280
+      → at (a .lengths) key < 1024 → at (a .rounds) 0 < 1024 → at (a .rounds) 1 ≤ 1024 → linksOf (withRound a poster key v) ≡ added (linksOf a) key
+  round-links poster key v place fits back tail size len fresh =
+      links-eq (linksOf (withRound a poster key v)) _
+      (places-eq (roundsOf (withRound a poster key v)) _
       (at-set₂ (a .«next_value») (at (a .«previous_value») 1024) (spot (a .rounds)) (spot (a .rounds)) 1024 1025 (s .next-value) (omega arith) (omega arith))
       (at-set₂ (a .«previous_value») (spot (a .rounds)) (at (a .«previous_value») 1024) 1024 (spot (a .rounds)) 1025 (s .previous-value) (omega arith) (omega arith))
       refl (up-is (at (a .rounds) 0) (omega arith)) (fresh-is (at (a .rounds) 0) (at (a .rounds) 1) (omega arith)) refl)
@@ -74,10 +74,11 @@ module _ (a : Arrays) (s : Sized a) where
         index = simp length-set (s .index);
         members = refl;
         rounds = s .rounds;
+        taken = s .taken;
       }
 
-  pub round-sized : (key v : ℕ) → Sized (withRound a key v)
-  round-sized key v =
+  pub round-sized : (poster key v : ℕ) → Sized (withRound a poster key v)
+  round-sized poster key v =
       record {
         keys = s .keys;
         lengths = simp length-set (s .lengths);
@@ -92,4 +93,5 @@ module _ (a : Arrays) (s : Sized a) where
         index = s .index;
         members = s .members;
         rounds = refl;
+        taken = simp length-set (s .taken);
       }

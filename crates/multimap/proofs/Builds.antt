@@ -50,18 +50,18 @@ module _ (m : Arrays) (g : Sound m) (key : ℕ) (here : 0 < tally key (order (me
   pub place-fits : x < 1024
   place-fits = vacancy-fits (roundsOf m) (g .chained .rounds) room
 
-  module _ (v : ℕ) where
+  module _ (poster v : ℕ) where
     -- the map with the stores
     abbrev r : Arrays
-    r = withRound m key v
+    r = withRound m poster key v
 
-    pub round-links : linksOf (withRound m key v) ≡ added (linksOf m) key
-    round-links = A.round-links m (g .sized) key v place-fits key-fits (rounds-ends .1) tail-in size-fits room (g .chained .rounds .some-fresh)
+    pub round-links : linksOf (withRound m poster key v) ≡ added (linksOf m) key
+    round-links = A.round-links m (g .sized) poster key v place-fits key-fits (rounds-ends .1) tail-in size-fits room (g .chained .rounds .some-fresh)
 
     abbrev vs : List ℕ
     vs = order (roundsOf m)
 
-    pub round-order : order (roundsOf (withRound m key v)) ≡ order (roundsOf m) ++ (spot (m .rounds) ∷ [])
+    pub round-order : order (roundsOf (withRound m poster key v)) ≡ order (roundsOf m) ++ (spot (m .rounds) ∷ [])
     round-order = ap (λ (c : Links). order (c .rounds)) round-links ∙ added-order (linksOf m) (g .chained) key here room
 
     off-x : (q : ℕ) → 0 < tally q vs → q ≢ x
@@ -83,15 +83,15 @@ module _ (m : Arrays) (g : Sound m) (key : ℕ) (here : 0 < tally key (order (me
           getD-set-same (m .values) x v 0 (rw (g .sized .values) place-fits),
         )
 
-    pub round-pairs : pairs (withRound m key v) ≡ pairs m ++ (record { key = at (m .keys) key; value = v } ∷ [])
+    pub round-pairs : pairs (withRound m poster key v) ≡ pairs m ++ (record { key = at (m .keys) key; value = v } ∷ [])
     round-pairs =
         ap (map (pairAt r)) round-order ∙ map-append (pairAt r) vs (x ∷ [])
         ∙ rw (map-same (pairAt r) (pairAt m) vs pair-old, pair-new)
 
-    pub round-sound : Sound (withRound m key v)
+    pub round-sound : Sound (withRound m poster key v)
     round-sound =
         record {
-          sized = A.round-sized m (g .sized) key v;
+          sized = A.round-sized m (g .sized) poster key v;
           chained = subst Chained (sym round-links) (added-chained (linksOf m) (g .chained) key here room);
           index = g .index;
         }

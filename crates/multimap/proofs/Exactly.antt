@@ -30,7 +30,7 @@ use Rattle.index.proofs.Search.{home-lt}
 use Rattle.index.proofs.Finds.{says-at, says-absent}
 use Rattle.index.proofs.Pigeon.{less-or-not}
 use Rattle.multimap.specs.Map.{at, pairAt, pairs, members, roundsOf, membersOf, linksOf}
-use Rattle.multimap.specs.WellLinked.{WellLinked, Limited}
+use Rattle.multimap.specs.WellLinked.{WellLinked, Counted, Limited}
 use Rattle.multimap.specs.Arrays.{Arrays}
 use Rattle.multimap.specs.Represents.{InUse, LeadsTo, Represents, Represented}
 use Rattle.multimap.proofs.Stores.{any-some, mem-tally, tally-mem, length-pairs, length-members}
@@ -277,7 +277,7 @@ module _ (m : Arrays) where
           any-one (eqb k) K (ap (any (eqb k)) (sym (r .members-are)) ∙ any-some (at (m .keys)) k x ks i refl) in
           omega (arith, many x i, has-pair k counted (has k P) refl)
 
-      well-linked-so : m .taken ≤ maxTaken → Limited m → WellLinked m
+      well-linked-so : Counted m → Limited m → WellLinked m
       well-linked-so t l =
           record {
             sized = r .sized;

@@ -3,6 +3,7 @@ use Prim.Native.Nat.{ℕ, _+_}
 use mathlib.Core.Path.{_≡_, refl, ap, _∙_}
 use mathlib.Core.Bool.{true, false}
 use mathlib.Core.List.{List}
+use lib.Dec.{ltb}
 use Rattle.steps.specs.State as St
 use Rattle.steps.specs.State.{State, rounds, others, replace, full, crowded}
 use Rattle.steps.specs.Call.{refused, round, insert}
@@ -18,41 +19,42 @@ use Rattle.multimap.specs.Strike.{Emptied}
 
 -- ---- the steps, case by case
 
-module _ (k v : ℕ) (s : State) where
-  pub step-full : St.present k s ≡ false → full s ≡ true → step (insert k v) s ≡ (say (refused 1), s)
+-- the poster is one of the sixteen
+module _ (p k v : ℕ) (s : State) (known : ltb 15 p ≡ false) where
+  pub step-full : St.present k s ≡ false → full s ≡ true → step (insert p k v) s ≡ (say (refused 1), s)
   unfolding step checks
-  step-full p f = rw (p, f)
+  step-full a f = rw (known, a, f)
 
-  pub step-crowded : St.present k s ≡ false → full s ≡ false → crowded s ≡ true → step (insert k v) s ≡ (say (refused 2), s)
+  pub step-crowded : St.present k s ≡ false → full s ≡ false → crowded s ≡ true → step (insert p k v) s ≡ (say (refused 2), s)
   unfolding step checks
-  step-crowded p f c = rw (p, f, c)
+  step-crowded a f c = rw (known, a, f, c)
 
-  pub step-known : St.present k s ≡ true → step (insert k v) s ≡ (say (first (rounds k (s .pairs))), replace k v s)
+  pub step-known : St.present k s ≡ true → step (insert p k v) s ≡ (say (first (rounds k (s .pairs))), replace p k v s)
   unfolding step checks act
-  step-known p = rw (p, p)
+  step-known a = rw (known, a, a)
 
-  pub step-new : St.present k s ≡ false → full s ≡ false → crowded s ≡ false → step (insert k v) s ≡ (say (first (rounds k (s .pairs))), replace k v s)
+  pub step-new : St.present k s ≡ false → full s ≡ false → crowded s ≡ false → step (insert p k v) s ≡ (say (first (rounds k (s .pairs))), replace p k v s)
   unfolding step checks act
-  step-new p f c = rw (p, f, c, p)
+  step-new a f c = rw (known, a, f, c, a)
 
 -- ---- the map
 
-module _ (k v : ℕ) (m : Arrays) (g : WellLinked m) where
+module _ (p k v : ℕ) (m : Arrays) (known : ltb 15 p ≡ false) (g : WellLinked m) where
   -- the member place x has the number k
   module _ (x : ℕ) (u : Member m k x) where
-    module _ (o : Arrays) (d : Emptied m x o) (r : Arrays) (a : AddedTo o x v r) where
+    module _ (o : Arrays) (d : Emptied m x o) (r : Arrays) (a : AddedTo o p x v r) where
       number : at (o .keys) x ≡ k
       number = ap (λ (l : List ℕ). at l x) (d .keys) ∙ u .number
 
       left : pairs o ≡ others k (pairs m)
       left = d .pairs ∙ ap (λ (n : ℕ). others n (pairs m)) (u .number)
 
-      state : stateOf r ≡ replace k v (stateOf m)
+      state : stateOf r ≡ replace p k v (stateOf m)
       state = rw (a .pairs, a .members, a .taken, a .limits, number, left, d .members, d .ledger .taken, d .ledger .limits, u .present)
 
-      pub insert-known : Does linked (insert k v) m (say (round (at (m .values) (at (m .«next_index») (1024 + x))))) r
+      pub insert-known : Does linked (insert p k v) m (say (round (at (m .values) (at (m .«next_index») (1024 + x))))) r
       insert-known =
           let h : ℕ = at (m .«next_index») (1024 + x) in
           let e : first (rounds k (pairs m)) ≡ round (at (m .values) h) = first-round m g k x u in
-          does-change linked (insert k v) m (say (round (at (m .values) h))) (replace k v (stateOf m)) r refl refl
-          (step-known k v (stateOf m) (u .present) ∙ rw e) state (a .linked)
+          does-change linked (insert p k v) m (say (round (at (m .values) h))) (replace p k v (stateOf m)) r refl refl
+          (step-known p k v (stateOf m) known (u .present) ∙ rw e) state (a .linked)

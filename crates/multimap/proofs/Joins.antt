@@ -42,6 +42,7 @@ module _ (m : Arrays) (k p : ℕ) (h : Joins m k p) where
             ⊎-elim (λ e. absurd (n e)) (λ i′. rw (ap (λ (c : Links). recordIn c j) (B.member-links m k p admitted)) (h .linked .some j i′))
             (B.old-or-new m k p admitted j i);
         index = s .index;
+        counted = h .linked .taken;
         limited =
             record {
               allowed = h .linked .limited .allowed;

@@ -2,6 +2,7 @@
 use Prim.Native.Nat.{ℕ, _≤_, _<_}
 use mathlib.Core.Path.{_≡_, refl}
 use mathlib.Core.Bool.{true, false}
+use lib.Dec.{ltb}
 use Rattle.steps.specs.State as St
 use Rattle.steps.specs.State.{State, full, crowded, add}
 use Rattle.steps.specs.Call.{append, refused, present}
@@ -20,18 +21,19 @@ use Rattle.multimap.specs.Adding.{Ready, AddedTo, Joins, Joined, Posted,
 module _ (m : Arrays) (k : ℕ) where
   -- a member is ready for a further round
   pub ready-known : (key : ℕ) → WellLinked m → at (m .rounds) 0 < limitsOf m .rounds → Member m k key → Ready m key
-  ready-known key g room h = record { sized = g .sized; chained = g .chained; here = h .member; others = λ j i n. g .some j i; index = g .index; limited = g .limited; room = room }
+  ready-known key g room h = record { sized = g .sized; chained = g .chained; here = h .member; others = λ j i n. g .some j i; index = g .index; counted = g .taken; limited = g .limited; room = room }
 
   -- who is no member can become one
   pub joins-unknown : (p : ℕ) → WellLinked m → at (m .rounds) 0 < limitsOf m .rounds → at (m .members) 0 < limitsOf m .members → Unknown m k p → Joins m k p
   joins-unknown p g room spare h = record { linked = g; spare = spare; room = room; vacant = h .vacant; new = h .nobody .new }
 
   -- a further round of a member, and the first round of a new one
-  pub posted-known : (key v : ℕ) (r : Arrays) → Member m k key → AddedTo m key v r → Posted m k v r
-  posted-known key v r h a = record { linked = a .linked; state = rw (a .pairs, a .members, a .taken, a .limits, h .number, h .present) }
+  pub posted-known : (poster key v : ℕ) (r : Arrays) → Member m k key → AddedTo m poster key v r → Posted m poster k v r
+  posted-known poster key v r h a =
+      record { linked = a .linked; state = rw (a .pairs, a .members, a .taken, a .limits, h .number, h .present) }
 
-  pub posted-new : (p v : ℕ) (o r : Arrays) → Joins m k p → Joined m k o → AddedTo o (lastKey o) v r → Posted m k v r
-  posted-new p v o r h j a =
+  pub posted-new : (p poster v : ℕ) (o r : Arrays) → Joins m k p → Joined m k o → AddedTo o poster (lastKey o) v r → Posted m poster k v r
+  posted-new p poster v o r h j a =
       record {
         linked = a .linked;
         state =
@@ -40,30 +42,28 @@ module _ (m : Arrays) (k : ℕ) where
 
 -- ---- the step of `append`, case by case
 
-module _ (k v : ℕ) (s : State) where
-  pub step-full : full s ≡ true → step (append k v) s ≡ (say (refused 1), s)
+-- the poster is one of the sixteen
+module _ (p k v : ℕ) (s : State) (known : ltb 15 p ≡ false) where
+  pub step-full : full s ≡ true → step (append p k v) s ≡ (say (refused 1), s)
   unfolding step checks
-  step-full f = rw f
+  step-full f = rw (known, f)
 
-  pub step-crowded : full s ≡ false → St.present k s ≡ false → crowded s ≡ true → step (append k v) s ≡ (say (refused 2), s)
+  pub step-crowded : full s ≡ false → St.present k s ≡ false → crowded s ≡ true → step (append p k v) s ≡ (say (refused 2), s)
   unfolding step checks
-  step-crowded f p c = rw (f, p, c)
+  step-crowded f a c = rw (known, f, a, c)
 
-  pub step-known : full s ≡ false → St.present k s ≡ true → step (append k v) s ≡ (say (present true), add k v s)
+  pub step-known : full s ≡ false → St.present k s ≡ true → step (append p k v) s ≡ (say (present true), add p k v s)
   unfolding step checks act
-  step-known f p = rw (f, p, p)
+  step-known f a = rw (known, f, a, a)
 
-  pub step-new : full s ≡ false → St.present k s ≡ false → crowded s ≡ false → step (append k v) s ≡ (say (present false), add k v s)
+  pub step-new : full s ≡ false → St.present k s ≡ false → crowded s ≡ false → step (append p k v) s ≡ (say (present false), add p k v s)
   unfolding step checks act
-  step-new f p c = rw (f, p, c, p)
+  step-new f a c = rw (known, f, a, c, a)
 
-module _ (k v : ℕ) (m : Arrays) where
-  pub append-full : WellLinked m → limitsOf m .rounds ≤ at (m .rounds) 0 → Does linked (append k v) m (say (refused 1)) m
-  append-full g h = does-refuse linked (append k v) m 1 g (step-full k v (stateOf m) (is-full m h))
+module _ (p k v : ℕ) (m : Arrays) (known : ltb 15 p ≡ false) where
+  pub append-full : WellLinked m → limitsOf m .rounds ≤ at (m .rounds) 0 → Does linked (append p k v) m (say (refused 1)) m
+  append-full g h = does-refuse linked (append p k v) m 1 g (step-full p k v (stateOf m) known (is-full m h))
 
-  pub append-crowded : (p : ℕ) → WellLinked m → at (m .rounds) 0 < limitsOf m .rounds → Unknown m k p → limitsOf m .members ≤ at (m .members) 0 → Does linked (append k v) m (say (refused 2)) m
-  append-crowded p g h u c = does-refuse linked (append k v) m 2 g (step-crowded k v (stateOf m) (not-full m h) (u .nobody .absent) (is-crowded m c))
-
-  pub append-known : (key : ℕ) (r : Arrays) → at (m .rounds) 0 < limitsOf m .rounds → Member m k key → Posted m k v r → Does linked (append k v) m (say (present true)) r
+  pub append-known : (key : ℕ) (r : Arrays) → at (m .rounds) 0 < limitsOf m .rounds → Member m k key → Posted m p k v r → Does linked (append p k v) m (say (present true)) r
   append-known key r h u a =
-      does-change linked (append k v) m (say (present true)) (add k v (stateOf m)) r refl refl (step-known k v (stateOf m) (not-full m h) (u .present)) (a .state) (a .linked)
+      does-change linked (append p k v) m (say (present true)) (add p k v (stateOf m)) r refl refl (step-known p k v (stateOf m) known (not-full m h) (u .present)) (a .state) (a .linked)

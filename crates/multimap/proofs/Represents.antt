@@ -73,6 +73,7 @@ module _ (m : Arrays) (g : WellLinked m) where
         once = once;
         rounds = omega (arith, length-pairs m, g .limited .rounds);
         members = omega (arith, length-members m, g .limited .members);
+        posters = g .sized .taken;
         taken = g .taken;
         allowed = g .limited .allowed;
       }

@@ -43,6 +43,7 @@ sized m w =
       index = search needs;
       members = refl;
       rounds = refl;
+      taken = search needs;
     }
 
 there : {A B : Type 0} (f : A → B) (g : B → A) → ((x : A) → g (f x) ≡ x) → (l : List A) → map g (map f l) ≡ l

@@ -138,6 +138,7 @@ module _ (o : Arrays) (s : Sized o) (g : Chained (linksOf o)) (x : ℕ) (i : 0 <
         index = s .index;
         members = s .members;
         rounds = refl;
+        taken = s .taken;
       }
 
 -- ---- the turns

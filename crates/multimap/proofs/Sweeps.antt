@@ -108,6 +108,7 @@ module _ (o : Arrays) (s : Sized o) (g : Sound o) (x : ℕ) (i : 0 < tally x (or
           index = shut .size;
           members = refl;
           rounds = s .rounds;
+          taken = s .taken;
         }
 
     sound-now : Sound (r closed)

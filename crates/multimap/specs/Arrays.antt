@@ -8,7 +8,8 @@ use Rattle.index.specs.declared.KeyPlace.{KeyPlace}
 use Rattle.multimap.specs.declared.ValuePlace.{ValuePlace}
 use Rattle.multimap.specs.declared.ListOrderedMultimap.{ListOrderedMultimap}
 
--- `members` and `rounds` are how many places of the list are in use, how many have ever been, the first freed one, and the map's limit of them
+-- `members` and `rounds` are how many places of the list are in use, how many have ever been, the first freed one, and the map's limit of them;
+-- `taken` is T's counters
 pub record Arrays : Type 0 where
   pub keys : List ℕ
   pub lengths : List ℕ
@@ -23,9 +24,9 @@ pub record Arrays : Type 0 where
   pub index : List ℕ
   pub members : List ℕ
   pub rounds : List ℕ
-  pub taken : ℕ
+  pub taken : List ℕ
 
-abbrev pub arrays : (keys lengths next-key previous-key values key-index next-value previous-value next-index previous-index index members rounds : List ℕ) (taken : ℕ) → Arrays
+abbrev pub arrays : (keys lengths next-key previous-key values key-index next-value previous-value next-index previous-index index members rounds taken : List ℕ) → Arrays
 arrays keys lengths next-key previous-key values key-index next-value previous-value next-index previous-index index members rounds taken =
     record {
       keys = keys;
@@ -59,6 +60,7 @@ pub record Sized (m : Arrays) : Type 0 where
   pub index : length (m .index) ≡ 512
   pub members : length (m .members) ≡ 4
   pub rounds : length (m .rounds) ≡ 4
+  pub taken : length (m .taken) ≡ 16
 
 -- a place as a number, and a number as a place
 abbrev pub keyNumber : KeyPlace → ℕ

@@ -5,7 +5,7 @@ use mathlib.Core.Path.{_≡_}
 use mathlib.Core.Bool.{Bool, true, false}
 use mathlib.Core.List.{List}
 use lib.ListN.{set}
-use Rattle.steps.specs.State.{maxTaken}
+use Rattle.steps.specs.State.{counting}
 use Rattle.index.specs.Removal.{Removed}
 use Rattle.links.specs.Stores.{at, up, nextBack, previousBack, nextOut, previousOut, spot, taking, freeing}
 use Rattle.multimap.specs.Arrays.{Arrays}
@@ -34,9 +34,9 @@ withMember a k p =
       taken = a .taken;
     }
 
--- the round v of the member place `key`, after the last round and after that member's last
-abbrev pub withRound : Arrays → ℕ → ℕ → Arrays
-withRound a key v =
+-- the round v of the member place `key`, after the last round and after that member's last, counted for the poster
+abbrev pub withRound : Arrays → ℕ → ℕ → ℕ → Arrays
+withRound a poster key v =
     record {
       keys = a .keys;
       lengths = set (a .lengths) key (up (at (a .lengths) key));
@@ -51,7 +51,7 @@ withRound a key v =
       index = a .index;
       members = a .members;
       rounds = taking (a .«next_value») (a .rounds);
-      taken = min (a .taken + 1) maxTaken;
+      taken = counting poster (a .taken);
     }
 
 -- the round in the place x is struck from the list and from its member's record

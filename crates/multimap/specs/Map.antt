@@ -1,4 +1,4 @@
--- What a map stands for: P, the list of pairs; K, the list of members; T, the rounds ever taken in; and its limits.
+-- What a map stands for: P, the list of pairs; K, the list of members; T, the rounds ever taken in, by poster; and its limits.
 use Prim.Native.Nat.{ℕ}
 use mathlib.Core.Path.{_≡_}
 use mathlib.Core.List.{List, map}
@@ -59,7 +59,7 @@ members m = map (at (m .keys)) (order (membersOf m))
 abbrev pub limitsOf : Arrays → Limits
 limitsOf m = limit (at (m .members) 3) (at (m .rounds) 3)
 
--- what no link touches is the same: T, which is the counter, and the limits
+-- what no link touches is the same: T, which is the counters, and the limits
 pub record SameLedger (m r : Arrays) : Type 0 where
   pub taken : r .taken ≡ m .taken
   pub limits : limitsOf r ≡ limitsOf m

@@ -1,6 +1,6 @@
 -- Module 6 of document 01 in its own words: a map's arrays, links, lengths, free places and index represent P and K. proofs/Exactly.antt shows that
--- a map is well-linked exactly when they represent some P and K, K holding each member of P exactly once and no other, T is at most its
--- bound, and the limits are at most 256 and 1,024 with K and P within them (document 02, No. 1). What `WellLinked` asks beyond is derived there:
+-- a map is well-linked exactly when they represent some P and K, K holding each member of P exactly once and no other, each counter of
+-- T is at most its bound (document 02, No. 2), and the limits are at most 256 and 1,024 with K and P within them (document 02, No. 1). What `WellLinked` asks beyond is derived there:
 -- that each member has a round (`some`), since K holds no other member than P's; that no two members have one number (`Holds.distinct`), since
 -- the search finds each; that no place stands twice, in use or freed, by counting.
 use Prim.Native.Nat.{ℕ, _+_, _<_, _≤_}
@@ -55,14 +55,14 @@ pub record Represents (m : Arrays) (P : List Pair) (K : List ℕ) : Type 0 where
   pub lengths : (x : ℕ) → 0 < tally x ks → at (m .lengths) x ≡ length (rounds (at (m .keys) x) P)
   pub index : LeadsTo (m .index) (m .keys) ks
 
--- Module 6: the arrays represent some P and K, K holds each member of P exactly once and no other, T is within its bound, the limits are ones
+-- Module 6: the arrays represent some P and K, K holds each member of P exactly once and no other, each counter of T is within its bound, the limits are ones
 -- that a map may have, and K and P are within them.
 pub record Represented (m : Arrays) : Type 0 where
   pub pairs : List Pair
   pub members : List ℕ
   pub represents : Represents m pairs members
   pub exactly : (k : ℕ) → times (eqb k) members ≡ cond (has k pairs) 1 0
-  pub taken : m .taken ≤ maxTaken
+  pub taken : (p : ℕ) → at (m .taken) p ≤ maxTaken
   pub allowed : Allowed (limitsOf m)
   pub few-members : length members ≤ limitsOf m .members
   pub few-pairs : length pairs ≤ limitsOf m .rounds

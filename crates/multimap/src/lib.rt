@@ -3,6 +3,7 @@ pub mod places;
 
 use index::KeyPlace;
 ghost use mathlib.Core.Path.{_≡_};
+ghost use lib.Dec.{ltb};
 ghost use Rattle.steps.specs.State.{empty, limit};
 ghost use Rattle.steps.specs.Step.{tooHigh, makeOf};
 ghost use Rattle.steps.specs.Proper.{Allowed};
@@ -17,7 +18,8 @@ pub const MEMBERS: u16 = 256;
 pub const ROUNDS: u16 = 1024;
 
 // The map's arrays as the calls in place are lent them, in the record's order; a member place and a round place are numbers there, which is the
-// same memory. Counts are how many places are in use, how many have ever been, the first freed one, and the map's limit.
+// same memory. Counts are how many places are in use, how many have ever been, the first freed one, and the map's limit; T has a counter for each
+// poster.
 pub type Keys = [u64; 256];
 
 pub type Lengths = [u16; 256];
@@ -35,6 +37,8 @@ pub type IndexLinks = [u16; 1280];
 pub type Index = [u16; 512];
 
 pub type Counts = [u16; 4];
+
+pub type Taken = [u32; 16];
 
 // A round's place in the map's arrays of rounds.
 #[repr(C)]
@@ -69,8 +73,8 @@ pub struct ListOrderedMultimap {
     pub values_fresh: u16,
     pub values_free: ValuePlace,
     pub values_limit: u16,
-    // Rounds ever taken in.
-    pub taken: u32,
+    // Rounds ever taken in, of each poster.
+    pub taken: [u32; 16],
 }
 
 // Makes the empty map with these limits, and with both 0 where it may not have them.
@@ -88,6 +92,13 @@ pub fn too_high(members: u64, rounds: u64) -> bool
     ensures { λ r. ⌜ r ≡ tooHigh (limit members rounds) ⌝ }
 {
     (MEMBERS as u64) < members || (ROUNDS as u64) < rounds
+}
+
+// Says whether there is no such poster: refusal 16.
+pub fn no_poster(poster: u64) -> bool
+    ensures { λ r. ⌜ r ≡ ltb 15 poster ⌝ }
+{
+    15 < poster
 }
 
 // Gives the cell at which the chain of a member's rounds begins and ends.
@@ -166,7 +177,7 @@ fn bare(keys_limit: u16, values_limit: u16) -> ListOrderedMultimap
         values_fresh: 0,
         values_free: ValuePlace(0),
         values_limit,
-        taken: 0,
+        taken: [0; 16],
     };
     out.next_key[256] = KeyPlace(MEMBERS);
     out.previous_key[256] = KeyPlace(MEMBERS);

@@ -6,6 +6,7 @@ use multimap::KeyIndex;
 use multimap::KeyLinks;
 use multimap::Keys;
 use multimap::Lengths;
+use multimap::Taken;
 use multimap::ValueLinks;
 use multimap::Values;
 use parsing::Request;
@@ -26,7 +27,7 @@ pub fn answer_line(
     keys: &mut Keys, lengths: &mut Lengths, next_key: &mut KeyLinks, previous_key: &mut KeyLinks,
     values: &mut Values, key_index: &mut KeyIndex, next_value: &mut ValueLinks, previous_value: &mut ValueLinks,
     next_index: &mut IndexLinks, previous_index: &mut IndexLinks, index: &mut Index,
-    members: &mut Counts, rounds: &mut Counts, taken: &mut u32,
+    members: &mut Counts, rounds: &mut Counts, taken: &mut Taken,
     line: &[u8], out: &mut [u8],
 ) -> usize
     ghost { Arrays }
@@ -52,7 +53,7 @@ fn ask(
     keys: &mut Keys, lengths: &mut Lengths, next_key: &mut KeyLinks, previous_key: &mut KeyLinks,
     values: &mut Values, key_index: &mut KeyIndex, next_value: &mut ValueLinks, previous_value: &mut ValueLinks,
     next_index: &mut IndexLinks, previous_index: &mut IndexLinks, index: &mut Index,
-    members: &mut Counts, rounds: &mut Counts, taken: &mut u32,
+    members: &mut Counts, rounds: &mut Counts, taken: &mut Taken,
     request: Request, line: &[u8], out: &mut [u8],
 ) -> usize
     ghost { Arrays }

@@ -69,13 +69,13 @@ told-record c m r a a′ out out2 ans e f t =
     (subst (λ (x : Arrays). Told linked c x a′ out out2 ans) e t))
 
 -- the call made in place is the call on the record
-pub turned-record : {op k v : ℕ} (m : ListOrderedMultimap) {a a′ : Arrays} {out out2 marks out′ out2′ ans : List ℕ}
+pub turned-record : {op poster k v : ℕ} (m : ListOrderedMultimap) {a a′ : Arrays} {out out2 marks out′ out2′ ans : List ℕ}
     {nk pk ki : List KeyPlace} {nv pv ni pi : List ValuePlace}
-    → Turned op k v a a′ out out2 marks out′ out2′ ans → a ≡ arraysOf m
+    → Turned op poster k v a a′ out out2 marks out′ out2′ ans → a ≡ arraysOf m
     → nk ≡ map keyPlace (a′ .«next_key») → pk ≡ map keyPlace (a′ .«previous_key») → ki ≡ map keyPlace (a′ .«key_index»)
     → nv ≡ map valuePlace (a′ .«next_value») → pv ≡ map valuePlace (a′ .«previous_value»)
     → ni ≡ map valuePlace (a′ .«next_index») → pi ≡ map valuePlace (a′ .«previous_index»)
-    → TurnedTyped op k v m (recordWith a′ nk pk ki nv pv ni pi) out out2 marks out′ out2′ ans
+    → TurnedTyped op poster k v m (recordWith a′ nk pk ki nv pv ni pi) out out2 marks out′ out2′ ans
 turned-record m {a} {a′} {nk} {pk} {ki} {nv} {pv} {ni} {pi} t e e₁ e₂ e₃ e₄ e₅ e₆ e₇ =
     record {
       told = told-record _ m _ a a′ _ _ _ e (packed a′ nk pk ki nv pv ni pi e₁ e₂ e₃ e₄ e₅ e₆ e₇) (t .told);

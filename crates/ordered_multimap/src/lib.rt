@@ -45,27 +45,27 @@ pub fn new(members: u64, rounds: u64) -> Reply
 }
 
 // Adds a round v of the member k at the back, and says whether k was there.
-pub fn append(m: ListOrderedMultimap, k: u64, v: u64) -> Reply
+pub fn append(m: ListOrderedMultimap, poster: u64, k: u64, v: u64) -> Reply
     requires { ⌜ WellLinked (arraysOf m) ⌝ }
-    ensures { λ r. ⌜ Does typed (C.append k v) m (say (answerOf (r .answer))) (r .map) ⌝ }
+    ensures { λ r. ⌜ Does typed (C.append poster k v) m (say (answerOf (r .answer))) (r .map) ⌝ }
 {
-    plain(m, 0, k, v)
+    plain(m, 0, poster, k, v)
 }
 
 // Puts a round v in the place of the member's record, whose first round is the answer.
-pub fn insert(m: ListOrderedMultimap, k: u64, v: u64) -> Reply
+pub fn insert(m: ListOrderedMultimap, poster: u64, k: u64, v: u64) -> Reply
     requires { ⌜ WellLinked (arraysOf m) ⌝ }
-    ensures { λ r. ⌜ Does typed (C.insert k v) m (say (answerOf (r .answer))) (r .map) ⌝ }
+    ensures { λ r. ⌜ Does typed (C.insert poster k v) m (say (answerOf (r .answer))) (r .map) ⌝ }
 {
-    plain(m, 1, k, v)
+    plain(m, 1, poster, k, v)
 }
 
 // Puts a round v in the place of the member's record, which is written to the front of `out`.
-pub fn insert_all(m: ListOrderedMultimap, k: u64, v: u64, out: &mut [u64]) -> Reply
+pub fn insert_all(m: ListOrderedMultimap, poster: u64, k: u64, v: u64, out: &mut [u64]) -> Reply
     requires { ⌜ WellLinked (arraysOf m) ⌝ }
-    ensures { λ r. ⌜ Does typed (C.insert-all k v (now (out .entry))) m (write (answerOf (r .answer)) (now (out .exit))) (r .map) ⌝ }
+    ensures { λ r. ⌜ Does typed (C.insert-all poster k v (now (out .entry))) m (write (answerOf (r .answer)) (now (out .exit))) (r .map) ⌝ }
 {
-    lending(m, 2, k, v, out)
+    lending(m, 2, poster, k, v, out)
 }
 
 // Makes the member leave with its record, whose first round is the answer.
@@ -73,7 +73,7 @@ pub fn remove(m: ListOrderedMultimap, k: u64) -> Reply
     requires { ⌜ WellLinked (arraysOf m) ⌝ }
     ensures { λ r. ⌜ Does typed (C.remove k) m (say (answerOf (r .answer))) (r .map) ⌝ }
 {
-    plain(m, 3, k, 0)
+    plain(m, 3, 0, k, 0)
 }
 
 // Makes the member leave with its record, which is written to the front of `out`.
@@ -81,7 +81,7 @@ pub fn remove_all(m: ListOrderedMultimap, k: u64, out: &mut [u64]) -> Reply
     requires { ⌜ WellLinked (arraysOf m) ⌝ }
     ensures { λ r. ⌜ Does typed (C.remove-all k (now (out .entry))) m (write (answerOf (r .answer)) (now (out .exit))) (r .map) ⌝ }
 {
-    lending(m, 4, k, 0, out)
+    lending(m, 4, 0, k, 0, out)
 }
 
 // Says whether the member is there, for the calls of occupied_entry and vacant_entry.
@@ -89,21 +89,21 @@ pub fn entry(m: ListOrderedMultimap, k: u64) -> Reply
     requires { ⌜ WellLinked (arraysOf m) ⌝ }
     ensures { λ r. ⌜ Does typed (C.entry k) m (say (answerOf (r .answer))) (r .map) ⌝ }
 {
-    plain(m, 5, k, 0)
+    plain(m, 5, 0, k, 0)
 }
 
 pub fn pop_front(m: ListOrderedMultimap) -> Reply
     requires { ⌜ WellLinked (arraysOf m) ⌝ }
     ensures { λ r. ⌜ Does typed C.pop-front m (say (answerOf (r .answer))) (r .map) ⌝ }
 {
-    plain(m, 10, 0, 0)
+    plain(m, 10, 0, 0, 0)
 }
 
 pub fn pop_back(m: ListOrderedMultimap) -> Reply
     requires { ⌜ WellLinked (arraysOf m) ⌝ }
     ensures { λ r. ⌜ Does typed C.pop-back m (say (answerOf (r .answer))) (r .map) ⌝ }
 {
-    plain(m, 11, 0, 0)
+    plain(m, 11, 0, 0, 0)
 }
 
 // Keeps the pairs with mark 1 and drops those with mark 0.
@@ -113,7 +113,7 @@ pub fn retain(m: ListOrderedMultimap, marks: &[u8]) -> Reply
 {
     let mut out = [0u64; 0];
     let mut out2 = [0u64; 0];
-    make(m, 12, 0, 0, &mut out, &mut out2, marks)
+    make(m, 12, 0, 0, 0, &mut out, &mut out2, marks)
 }
 
 // Moves the i-th pair to round place i and the i-th member to member place i.
@@ -121,14 +121,14 @@ pub fn pack_to(m: ListOrderedMultimap, members: u64, rounds: u64) -> Reply
     requires { ⌜ WellLinked (arraysOf m) ⌝ }
     ensures { λ r. ⌜ Does typed (C.pack-to members rounds) m (say (answerOf (r .answer))) (r .map) ⌝ }
 {
-    plain(m, 13, members, rounds)
+    plain(m, 13, 0, members, rounds)
 }
 
 pub fn clear(m: ListOrderedMultimap) -> Reply
     requires { ⌜ WellLinked (arraysOf m) ⌝ }
     ensures { λ r. ⌜ Does typed C.clear m (say (answerOf (r .answer))) (r .map) ⌝ }
 {
-    plain(m, 14, 0, 0)
+    plain(m, 14, 0, 0, 0)
 }
 
 // Reads the member's first round.
@@ -136,7 +136,7 @@ pub fn get(m: ListOrderedMultimap, k: u64) -> Reply
     requires { ⌜ WellLinked (arraysOf m) ⌝ }
     ensures { λ r. ⌜ Does typed (C.get k) m (say (answerOf (r .answer))) (r .map) ⌝ }
 {
-    plain(m, 15, k, 0)
+    plain(m, 15, 0, k, 0)
 }
 
 // Writes the member's rounds, in order, to the front of `out`.
@@ -144,21 +144,21 @@ pub fn get_all(m: ListOrderedMultimap, k: u64, out: &mut [u64]) -> Reply
     requires { ⌜ WellLinked (arraysOf m) ⌝ }
     ensures { λ r. ⌜ Does typed (C.get-all k (now (out .entry))) m (write (answerOf (r .answer)) (now (out .exit))) (r .map) ⌝ }
 {
-    lending(m, 16, k, 0, out)
+    lending(m, 16, 0, k, 0, out)
 }
 
 pub fn entry_len(m: ListOrderedMultimap, k: u64) -> Reply
     requires { ⌜ WellLinked (arraysOf m) ⌝ }
     ensures { λ r. ⌜ Does typed (C.entry-len k) m (say (answerOf (r .answer))) (r .map) ⌝ }
 {
-    plain(m, 17, k, 0)
+    plain(m, 17, 0, k, 0)
 }
 
 pub fn contains_key(m: ListOrderedMultimap, k: u64) -> Reply
     requires { ⌜ WellLinked (arraysOf m) ⌝ }
     ensures { λ r. ⌜ Does typed (C.contains-key k) m (say (answerOf (r .answer))) (r .map) ⌝ }
 {
-    plain(m, 18, k, 0)
+    plain(m, 18, 0, k, 0)
 }
 
 // Writes the members, in joining order, to the front of `out`.
@@ -166,21 +166,21 @@ pub fn keys(m: ListOrderedMultimap, out: &mut [u64]) -> Reply
     requires { ⌜ WellLinked (arraysOf m) ⌝ }
     ensures { λ r. ⌜ Does typed (C.keys (now (out .entry))) m (write (answerOf (r .answer)) (now (out .exit))) (r .map) ⌝ }
 {
-    lending(m, 19, 0, 0, out)
+    lending(m, 19, 0, 0, 0, out)
 }
 
 pub fn keys_len(m: ListOrderedMultimap) -> Reply
     requires { ⌜ WellLinked (arraysOf m) ⌝ }
     ensures { λ r. ⌜ Does typed C.keys-len m (say (answerOf (r .answer))) (r .map) ⌝ }
 {
-    plain(m, 20, 0, 0)
+    plain(m, 20, 0, 0, 0)
 }
 
 pub fn values_len(m: ListOrderedMultimap) -> Reply
     requires { ⌜ WellLinked (arraysOf m) ⌝ }
     ensures { λ r. ⌜ Does typed C.values-len m (say (answerOf (r .answer))) (r .map) ⌝ }
 {
-    plain(m, 21, 0, 0)
+    plain(m, 21, 0, 0, 0)
 }
 
 // Writes the pairs in global order: the members to the front of `members`, and the rounds to the front of `rounds`.
@@ -190,26 +190,26 @@ pub fn iter(m: ListOrderedMultimap, members: &mut [u64], rounds: &mut [u64]) -> 
         (record { answer = answerOf (r .answer); slices = lend (now (members .exit)) (now (rounds .exit)) }) (r .map) ⌝ }
 {
     let marks = [0u8; 0];
-    make(m, 22, 0, 0, members, rounds, &marks)
+    make(m, 22, 0, 0, 0, members, rounds, &marks)
 }
 
-// Reads how many rounds were ever taken in.
-pub fn taken(m: ListOrderedMultimap) -> Reply
+// Writes how many rounds were ever taken in, of each of the sixteen posters.
+pub fn taken(m: ListOrderedMultimap, out: &mut [u64; 16]) -> Reply
     requires { ⌜ WellLinked (arraysOf m) ⌝ }
-    ensures { λ r. ⌜ Does typed C.taken m (say (answerOf (r .answer))) (r .map) ⌝ }
+    ensures { λ r. ⌜ Does typed (C.taken (now (out .entry))) m (write (answerOf (r .answer)) (now (out .exit))) (r .map) ⌝ }
 {
-    plain(m, 23, 0, 0)
+    lending(m, 23, 0, 0, 0, out)
 }
 
-// Makes the call with the number `op`; from 24 on that is `taken`. The record is taken apart, the call is made in place on its arrays, and the record is
+// Makes the call with the number `op`; from 24 on that is `values_len`. The record is taken apart, the call is made in place on its arrays, and the record is
 // made anew. `answer` gets the answer's four numbers.
 #[no_mangle]
 #[rattlefmt::skip]
 pub extern "C" fn om_turn(
-    m: ListOrderedMultimap, op: u64, k: u64, v: u64, out: &mut [u64], out2: &mut [u64], marks: &[u8], answer: &mut [u64; 4],
+    m: ListOrderedMultimap, op: u64, poster: u64, k: u64, v: u64, out: &mut [u64], out2: &mut [u64], marks: &[u8], answer: &mut [u64; 4],
 ) -> ListOrderedMultimap
     requires { ⌜ WellLinked (arraysOf m) ⌝ }
-    ensures { λ r. ⌜ TurnedTyped op k v m r (now (out .entry)) (now (out2 .entry)) (now (marks .entry)) (now (out .exit)) (now (out2 .exit)) (now (answer .exit)) ⌝ }
+    ensures { λ r. ⌜ TurnedTyped op poster k v m r (now (out .entry)) (now (out2 .entry)) (now (marks .entry)) (now (out .exit)) (now (out2 .exit)) (now (answer .exit)) ⌝ }
 {
     let mut keys = m.keys;
     let mut lengths = m.length;
@@ -236,7 +236,7 @@ pub extern "C" fn om_turn(
     let mut taken = m.taken;
     turn::om_call(
         &mut keys, &mut lengths, &mut next_key, &mut previous_key, &mut values, &mut key_index, &mut next_value, &mut previous_value,
-        &mut next_index, &mut previous_index, &mut index, &mut members, &mut rounds, &mut taken, op, k, v, out, out2, marks, answer,
+        &mut next_index, &mut previous_index, &mut index, &mut members, &mut rounds, &mut taken, op, poster, k, v, out, out2, marks, answer,
     );
     let next_key = places::key_links_typed(next_key);
     let previous_key = places::key_links_typed(previous_key);
@@ -254,34 +254,34 @@ pub extern "C" fn om_turn(
 
 // Makes the call with the number `op` and reads its answer.
 #[rattlefmt::skip]
-fn make(m: ListOrderedMultimap, op: u64, k: u64, v: u64, out: &mut [u64], out2: &mut [u64], marks: &[u8]) -> Reply
+fn make(m: ListOrderedMultimap, op: u64, poster: u64, k: u64, v: u64, out: &mut [u64], out2: &mut [u64], marks: &[u8]) -> Reply
     requires { ⌜ WellLinked (arraysOf m) ⌝ }
-    ensures { λ r. ⌜ Does typed (callOf op k v (now (out .entry)) (now (out2 .entry)) (now (marks .entry))) m
+    ensures { λ r. ⌜ Does typed (callOf op poster k v (now (out .entry)) (now (out2 .entry)) (now (marks .entry))) m
         (record { answer = answerOf (r .answer); slices = lend (had (lends op) (now (out .exit))) (had (lendsTwo op) (now (out2 .exit))) }) (r .map) ⌝ }
 {
     let mut answer = [0u64; 4];
-    let map = om_turn(m, op, k, v, out, out2, marks, &mut answer);
+    let map = om_turn(m, op, poster, k, v, out, out2, marks, &mut answer);
     let answer = answers::read(answer);
     Reply { map, answer }
 }
 
 // Makes the call with no slice.
-fn plain(m: ListOrderedMultimap, op: u64, k: u64, v: u64) -> Reply
+fn plain(m: ListOrderedMultimap, op: u64, poster: u64, k: u64, v: u64) -> Reply
     requires { ⌜ WellLinked (arraysOf m) ⌝ }
-    ensures { λ r. ⌜ Does typed (callOf op k v [] [] []) m (say (answerOf (r .answer))) (r .map) ⌝ }
+    ensures { λ r. ⌜ Does typed (callOf op poster k v [] [] []) m (say (answerOf (r .answer))) (r .map) ⌝ }
 {
     let mut out = [0u64; 0];
     let mut out2 = [0u64; 0];
     let marks = [0u8; 0];
-    make(m, op, k, v, &mut out, &mut out2, &marks)
+    make(m, op, poster, k, v, &mut out, &mut out2, &marks)
 }
 
 // Makes the call with one slice.
-fn lending(m: ListOrderedMultimap, op: u64, k: u64, v: u64, out: &mut [u64]) -> Reply
+fn lending(m: ListOrderedMultimap, op: u64, poster: u64, k: u64, v: u64, out: &mut [u64]) -> Reply
     requires { ⌜ WellLinked (arraysOf m) ⌝ }
-    ensures { λ r. ⌜ Does typed (callOf op k v (now (out .entry)) [] []) m (write (answerOf (r .answer)) (had (lends op) (now (out .exit)))) (r .map) ⌝ }
+    ensures { λ r. ⌜ Does typed (callOf op poster k v (now (out .entry)) [] []) m (write (answerOf (r .answer)) (had (lends op) (now (out .exit)))) (r .map) ⌝ }
 {
     let mut out2 = [0u64; 0];
     let marks = [0u8; 0];
-    make(m, op, k, v, out, &mut out2, &marks)
+    make(m, op, poster, k, v, out, &mut out2, &marks)
 }

@@ -8,23 +8,23 @@ ghost use Rattle.multimap.specs.Arrays.{arraysOf};
 ghost use Rattle.multimap.specs.WellLinked.{WellLinked, typed};
 ghost use Rattle.answers.specs.Answers.{answerOf};
 
-pub fn append(m: ListOrderedMultimap, k: u64, v: u64) -> Reply
+pub fn append(m: ListOrderedMultimap, poster: u64, k: u64, v: u64) -> Reply
     requires { ⌜ WellLinked (arraysOf m) ⌝ }
-    ensures { λ r. ⌜ Does typed (C.occupied-append k v) m (say (answerOf (r .answer))) (r .map) ⌝ }
+    ensures { λ r. ⌜ Does typed (C.occupied-append poster k v) m (say (answerOf (r .answer))) (r .map) ⌝ }
 {
-    super::plain(m, 6, k, v)
+    super::plain(m, 6, poster, k, v)
 }
 
-pub fn insert(m: ListOrderedMultimap, k: u64, v: u64) -> Reply
+pub fn insert(m: ListOrderedMultimap, poster: u64, k: u64, v: u64) -> Reply
     requires { ⌜ WellLinked (arraysOf m) ⌝ }
-    ensures { λ r. ⌜ Does typed (C.occupied-insert k v) m (say (answerOf (r .answer))) (r .map) ⌝ }
+    ensures { λ r. ⌜ Does typed (C.occupied-insert poster k v) m (say (answerOf (r .answer))) (r .map) ⌝ }
 {
-    super::plain(m, 7, k, v)
+    super::plain(m, 7, poster, k, v)
 }
 
 pub fn remove_entry(m: ListOrderedMultimap, k: u64) -> Reply
     requires { ⌜ WellLinked (arraysOf m) ⌝ }
     ensures { λ r. ⌜ Does typed (C.occupied-remove-entry k) m (say (answerOf (r .answer))) (r .map) ⌝ }
 {
-    super::plain(m, 8, k, 0)
+    super::plain(m, 8, 0, k, 0)
 }

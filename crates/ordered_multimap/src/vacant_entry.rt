@@ -8,9 +8,9 @@ ghost use Rattle.multimap.specs.Arrays.{arraysOf};
 ghost use Rattle.multimap.specs.WellLinked.{WellLinked, typed};
 ghost use Rattle.answers.specs.Answers.{answerOf};
 
-pub fn insert(m: ListOrderedMultimap, k: u64, v: u64) -> Reply
+pub fn insert(m: ListOrderedMultimap, poster: u64, k: u64, v: u64) -> Reply
     requires { ⌜ WellLinked (arraysOf m) ⌝ }
-    ensures { λ r. ⌜ Does typed (C.vacant-insert k v) m (say (answerOf (r .answer))) (r .map) ⌝ }
+    ensures { λ r. ⌜ Does typed (C.vacant-insert poster k v) m (say (answerOf (r .answer))) (r .map) ⌝ }
 {
-    super::plain(m, 9, k, v)
+    super::plain(m, 9, poster, k, v)
 }

@@ -6,7 +6,7 @@ use mathlib.Core.List.{List, []}
 use native.Mathlib.Omega.{arith}
 use lib.ListN.{length, getD, set, length-set, length-replicate}
 use lib.Seq.{getD-set-same}
-use Rattle.steps.specs.State.{State, Limits, limit, maxTaken, empty}
+use Rattle.steps.specs.State.{State, Limits, limit, empty}
 use Rattle.steps.specs.Call.{Answer, clear, refused, done}
 use Rattle.steps.specs.Coded.{coded}
 use Rattle.steps.specs.Step.{step, checks, act, say, tooHigh, makeOf}
@@ -15,6 +15,7 @@ use Rattle.steps.specs.Trace.{Does}
 use Rattle.steps.specs.Told.{Told}
 use Rattle.steps.proofs.Doing.{does-change}
 use Rattle.steps.proofs.Limits.{made-refused, made-done, may-have}
+use Rattle.steps.proofs.Posters.{none-taken}
 use Rattle.links.specs.Route.{tally}
 use Rattle.links.specs.Places.{order}
 use Rattle.links.specs.Links.{recordOf}
@@ -25,13 +26,13 @@ use Rattle.index.proofs.Table.{empty-holds}
 use Rattle.multimap.specs.Arrays.{Arrays, Sized, arrays}
 use Rattle.multimap.specs.Map.{at, roundsOf, membersOf, limitsOf, stateOf}
 use Rattle.multimap.specs.Making.{Made}
-use Rattle.multimap.specs.WellLinked.{WellLinked, linked}
+use Rattle.multimap.specs.WellLinked.{WellLinked, Counted, linked}
 use Rattle.multimap.proofs.Copies.{getD-in}
 use Rattle.multimap.proofs.Empty.{empty-map}
 use Rattle.packing.specs.Cleared.{unused, cleared, zeros}
 
 -- no pair and no member, this T and these limits
-abbrev nothing : ℕ → Limits → State
+abbrev nothing : List ℕ → Limits → State
 nothing t l = record { pairs = []; members = []; taken = t; limits = l }
 
 -- an end cell that leads to itself
@@ -62,17 +63,18 @@ module _ (a : Arrays) where
         index = length-replicate {A = ℕ} 512 65535;
         members = refl;
         rounds = refl;
+        taken = s .taken;
       }
 
   -- whatever the arrays held, they hold a map with no pair and no member
-  pub cleared-map : Sized a → Allowed (limitsOf a) → a .taken ≤ maxTaken
+  pub cleared-map : Sized a → Allowed (limitsOf a) → Counted a
       → WellLinked (cleared a) × (stateOf (cleared a) ≡ nothing (a .taken) (limitsOf a))
   cleared-map s l t =
       empty-map (cleared a) refl refl (a .taken) refl refl refl
       (end-cell (a .«next_value») 1025 1024 (s .next-value) (omega arith))
       (end-cell (a .«previous_value») 1025 1024 (s .previous-value) (omega arith))
       (end-cell (a .«next_key») 257 256 (s .next-key) (omega arith)) (end-cell (a .«previous_key») 257 256 (s .previous-key) (omega arith))
-      (cleared-sized s) (empty-holds (a .keys)) l (omega arith)
+      (cleared-sized s) (empty-holds (a .keys)) l t
 
 step-clear : (s : State) → step clear s ≡ (say done, nothing (s .taken) (s .limits))
 unfolding step checks act
@@ -128,11 +130,12 @@ zeros-sized m r =
       index = length-replicate {A = ℕ} 512 65535;
       members = refl;
       rounds = refl;
+      taken = length-replicate {A = ℕ} 16 0;
     }
 
 new-map : (l : Limits) → Allowed l
     → WellLinked (cleared (zeros (l .members) (l .rounds))) × (stateOf (cleared (zeros (l .members) (l .rounds))) ≡ empty l)
-new-map l a = cleared-map (zeros (l .members) (l .rounds)) (zeros-sized (l .members) (l .rounds)) a (omega arith)
+new-map l a = cleared-map (zeros (l .members) (l .rounds)) (zeros-sized (l .members) (l .rounds)) a (none-taken 16)
 
 -- what is made with the limits l is the map with the limits k
 module _ (l k : Limits) (allowed : Allowed k) (a : Answer) (is : makeOf l ≡ (a, empty k)) where

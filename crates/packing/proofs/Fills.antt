@@ -47,19 +47,19 @@ module _ (owners scores : List ℕ) (n : ℕ) (m : Arrays) (g : Fillable owners 
     room : at (r .rounds) 0 < 1024
     room = omega (arith, held, g .few)
 
-    pub fill-more : Filled m owners scores (j + 1) (withRound r (at owners j) (at scores j))
+    pub fill-more : Filled m owners scores (j + 1) (withRound r 0 (at owners j) (at scores j))
     fill-more =
         let k : ℕ = at owners j in
         let v : ℕ = at scores j in
         record {
-          sound = round-sound r (f .sound) k here room v;
+          sound = round-sound r (f .sound) k here room 0 v;
           pairs =
-              round-pairs r (f .sound) k here room v
+              round-pairs r (f .sound) k here room 0 v
               ∙ ap (λ (keys : List ℕ). pairs r ++ (record { key = at keys k; value = v } ∷ [])) (f .keys)
               ∙ ap (λ (ps : List Pair). ps ++ (pair j ∷ [])) (f .pairs)
               ∙ sym (map-more pair j);
           places =
-              round-order r (f .sound) k here room v
+              round-order r (f .sound) k here room 0 v
               ∙ ap (λ (qs : List ℕ). qs ++ (spot (r .rounds) ∷ [])) (f .places)
               ∙ ap (λ (y : ℕ). upTo j ++ (y ∷ [])) (spot-up (r .rounds) j held (f .fresh))
               ∙ sym (up-more j);
@@ -78,9 +78,9 @@ module _ (owners scores : List ℕ) (n : ℕ) (m : Arrays) (g : Fillable owners 
   filling-none = (omega arith, fill-none owners scores n m g)
 
   pub filling-more : (j : ℕ) (r : Arrays) → Filling m owners scores n j r → j < n → {k v : ℕ} → k ≡ at owners j → v ≡ at scores j
-      → {o : Arrays} → o ≡ withRound r k v → Filling m owners scores n (j + 1) o
+      → {o : Arrays} → o ≡ withRound r 0 k v → Filling m owners scores n (j + 1) o
   filling-more j r f more {k} {v} ek ev e =
-      let is = e ∙ ap (λ (x : ℕ). withRound r x v) ek ∙ ap (λ (x : ℕ). withRound r (at owners j) x) ev in
+      let is = e ∙ ap (λ (x : ℕ). withRound r 0 x v) ek ∙ ap (λ (x : ℕ). withRound r 0 (at owners j) x) ev in
       (omega arith, subst (Filled m owners scores (j + 1)) (sym is) (fill-more owners scores n m g j r (f .1) more))
 
 pub filling-all : (m : Arrays) (owners scores : List ℕ) (n j : ℕ) (r : Arrays) → Filling m owners scores n j r → n ≤ j

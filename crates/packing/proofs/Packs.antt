@@ -97,13 +97,13 @@ in-order : (l : Places) (n : ℕ) → order l ≡ upTo n → (i : ℕ) → i < l
 in-order l n e i h = ap (λ (q : List ℕ). getD q i 0) e ∙ nth-up n i (omega (arith, length-order l, ap length e, length-up n))
 
 -- r with another T
-abbrev pub retaken : Arrays → ℕ → Arrays
+abbrev pub retaken : Arrays → List ℕ → Arrays
 retaken r t =
     arrays (r .keys) (r .lengths) (r .«next_key») (r .«previous_key») (r .values) (r .«key_index») (r .«next_value») (r .«previous_value»)
     (r .«next_index») (r .«previous_index») (r .index) (r .members) (r .rounds) t
 
-retaken-sized : (r : Arrays) (t : ℕ) → Sized r → Sized (retaken r t)
-retaken-sized r t s =
+retaken-sized : (r : Arrays) (t : List ℕ) → length t ≡ 16 → Sized r → Sized (retaken r t)
+retaken-sized r t n s =
     record {
       keys = s .keys;
       lengths = s .lengths;
@@ -118,6 +118,7 @@ retaken-sized r t s =
       index = s .index;
       members = s .members;
       rounds = s .rounds;
+      taken = n;
     }
 
 module _ (m : Arrays) (g : WellLinked m) where
@@ -224,7 +225,7 @@ module _ (m : Arrays) (g : WellLinked m) where
             record {
               linked =
                   sound-linked m g p
-                  (record { sized = retaken-sized r (m .taken) (f .sound .sized); chained = f .sound .chained; index = f .sound .index })
+                  (record { sized = retaken-sized r (m .taken) (g .sized .taken) (f .sound .sized); chained = f .sound .chained; index = f .sound .index })
                   same-state;
               state = same-state;
               packed = (

@@ -34,4 +34,4 @@ cleared a =
 abbrev pub zeros : ℕ → ℕ → Arrays
 zeros keys-limit values-limit =
     arrays (replicate 256 0) (replicate 256 0) (replicate 257 0) (replicate 257 0) (replicate 1024 0) (replicate 1024 0) (replicate 1025 0)
-    (replicate 1025 0) (replicate 1280 0) (replicate 1280 0) emptyIndex (unused keys-limit) (unused values-limit) 0
+    (replicate 1025 0) (replicate 1280 0) (replicate 1280 0) emptyIndex (unused keys-limit) (unused values-limit) (replicate 16 0)

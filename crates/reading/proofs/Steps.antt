@@ -6,12 +6,12 @@ use mathlib.Core.Bool.{Bool, true, false, cond, _||_, or-true}
 use mathlib.Core.List.{List, [], map, map-map}
 use mathlib.Core.Option.{some, none}
 use borrow.Author.Tests.{lt-ltb, le-ltb}
-use lib.ListN.{length}
+use lib.ListN.{length, take}
 use Rattle.steps.specs.State as St
 use Rattle.steps.specs.State.{State}
 use Rattle.steps.specs.Call as C
 use Rattle.steps.specs.Call.{Call, Answer, Outcome, lend, refused, count}
-use Rattle.steps.specs.Step.{step, checks, act, settle, refusing, say, write, first, short, over, entryOf}
+use Rattle.steps.specs.Step.{step, checks, act, settle, refusing, say, write, first, short, over, onto, entryOf}
 use Rattle.steps.specs.Coded.{coded}
 use Rattle.steps.specs.Told.{Told}
 use Rattle.steps.proofs.Doing.{packs, does-stay}
@@ -104,10 +104,6 @@ module _ (α : Arrays) (g : WellLinked α) where
     told-values-len e =
         told-same C.values-len (say (count (length (pairs α)))) refl refl ans (e ∙ ap (λ (n : ℕ). coded (count n)) (sym (length-pairs α)))
 
-    pub told-taken : ans ≡ coded (count (α .taken)) → Told linked C.taken α α [] [] ans
-    unfolding step checks act
-    told-taken = told-same C.taken (say (count (α .taken))) refl refl ans
-
   -- the calls that write to slices
   module _ (a : Answer) (out₀ out ans : List ℕ) (e : ans ≡ coded a) where
     -- copied from the first place on, out of arrays that are the map's
@@ -121,6 +117,13 @@ module _ (α : Arrays) (g : WellLinked α) where
     pub told-get-all : (k : ℕ) → write a out ≡ writing (St.rounds k (pairs α)) out₀ → Told linked (C.get-all k out₀) α α out [] ans
     told-get-all k w =
         told-same (C.get-all k out₀) (write a out) refl (step-get-all out₀ (stateOf α) k ∙ rw (← w)) ans e
+
+  -- T, as much as the slice holds
+  pub told-taken : {t : List ℕ} → t ≡ α .taken → (out₀ : List ℕ) → {n : ℕ} → n ≡ length (take (length out₀) t)
+      → {out : List ℕ} → out ≡ onto t out₀ → (ans : List ℕ) → ans ≡ coded (count n) → Told linked (C.taken out₀) α α out [] ans
+  unfolding step checks act
+  told-taken same out₀ {n} many {out} e =
+      told-same (C.taken out₀) (write (count n) out) refl (rw (← same, ← many, ← e))
 
   module _ (ks vs : List ℕ) (n : ℕ) (held : n ≡ at (α .rounds) 0) (ans : List ℕ) where
     long : length (pairs α) ≡ n

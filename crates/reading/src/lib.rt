@@ -11,6 +11,7 @@ use multimap::Keys;
 use multimap::Lengths;
 use multimap::MEMBERS;
 use multimap::ROUNDS;
+use multimap::Taken;
 use multimap::ValueLinks;
 use multimap::ValuePlace;
 use multimap::Values;
@@ -170,12 +171,26 @@ pub extern "C" fn om_iter<'a>(
     answers::tell(answer, Answer::Count(pairs));
 }
 
-// Tells how many rounds were ever taken in.
+// Writes how many rounds were ever taken in, of each of the sixteen posters, and tells that they are sixteen.
 #[no_mangle]
-pub extern "C" fn om_taken(taken: &u32, answer: &mut [u64; 4])
-    ensures { λ _. ⌜ Reads C.taken [] [] (now (answer .exit)) (λ α. now (taken .entry) ≡ α .taken) ⌝ }
+pub extern "C" fn om_taken(taken: &Taken, out: &mut [u64; 16], answer: &mut [u64; 4])
+    ensures { λ _. ⌜ Reads (C.taken (now (out .entry))) (now (out .exit)) [] (now (answer .exit)) (λ α. now (taken .entry) ≡ α .taken) ⌝ }
 {
-    let n = *taken as u64;
+    write_counters(taken, out, answer);
+}
+
+// Writes the same to a slice, as many as it holds, and tells how many.
+pub fn write_counters(taken: &Taken, out: &mut [u64], answer: &mut [u64; 4])
+    ensures { λ _. ⌜ Reads (C.taken (now (out .entry))) (now (out .exit)) [] (now (answer .exit)) (λ α. now (taken .entry) ≡ α .taken) ⌝ }
+{
+    let counters: &[u32] = taken;
+    let mut i = 0;
+    while i < counters.len() && i < out.len() {
+        let n = counters[i];
+        out[i] = n as u64;
+        i += 1;
+    }
+    let n = i as u64;
     answers::tell(answer, Answer::Count(n));
 }
 

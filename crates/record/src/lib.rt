@@ -70,7 +70,7 @@ pub fn read_image(members_limit: u64, rounds_limit: u64, bytes: &[u8]) -> Reply
     let mut index = [0u16; 512];
     let mut members = [0u16; 4];
     let mut rounds = [0u16; 4];
-    let mut taken = 0u32;
+    let mut taken = [0u32; 16];
     let mut numbers = [0u64; 4];
     image::om_read_image(
         &mut keys, &mut lengths, &mut next_key, &mut previous_key, &mut values, &mut key_index, &mut next_value, &mut previous_value,

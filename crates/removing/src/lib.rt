@@ -9,6 +9,7 @@ use multimap::KeyIndex;
 use multimap::KeyLinks;
 use multimap::Keys;
 use multimap::Lengths;
+use multimap::Taken;
 use multimap::ValueLinks;
 use multimap::Values;
 ghost use mathlib.Core.Path.{_≡_};
@@ -27,7 +28,7 @@ pub extern "C" fn om_remove(
     keys: &mut Keys, lengths: &mut Lengths, next_key: &mut KeyLinks, previous_key: &mut KeyLinks,
     values: &mut Values, key_index: &mut KeyIndex, next_value: &mut ValueLinks, previous_value: &mut ValueLinks,
     next_index: &mut IndexLinks, previous_index: &mut IndexLinks, index: &mut Index,
-    members: &mut Counts, rounds: &mut Counts, taken: &mut u32,
+    members: &mut Counts, rounds: &mut Counts, taken: &mut Taken,
     k: u64, answer: &mut [u64; 4],
 )
     ghost { Arrays }
@@ -56,7 +57,7 @@ pub extern "C" fn om_remove_all(
     keys: &mut Keys, lengths: &mut Lengths, next_key: &mut KeyLinks, previous_key: &mut KeyLinks,
     values: &mut Values, key_index: &mut KeyIndex, next_value: &mut ValueLinks, previous_value: &mut ValueLinks,
     next_index: &mut IndexLinks, previous_index: &mut IndexLinks, index: &mut Index,
-    members: &mut Counts, rounds: &mut Counts, taken: &mut u32,
+    members: &mut Counts, rounds: &mut Counts, taken: &mut Taken,
     k: u64, out: &mut [u64], answer: &mut [u64; 4],
 )
     ghost { Arrays }
@@ -89,7 +90,7 @@ pub fn remove_record(
     keys: &mut Keys, lengths: &mut Lengths, next_key: &mut KeyLinks, previous_key: &mut KeyLinks,
     values: &mut Values, key_index: &mut KeyIndex, next_value: &mut ValueLinks, previous_value: &mut ValueLinks,
     next_index: &mut IndexLinks, previous_index: &mut IndexLinks, index: &mut Index,
-    members: &mut Counts, rounds: &mut Counts, taken: &mut u32,
+    members: &mut Counts, rounds: &mut Counts, taken: &mut Taken,
     key: KeyPlace,
 )
     ghost { Arrays }

@@ -22,16 +22,16 @@ use Rattle.replay.specs.Played.{Played}
 use Rattle.replay.proofs.Tapes.{decode-call}
 
 is-known : (c : Call) → known (view c .number) (length (view c .out)) (length (view c .out2)) (length (view c .marks)) ≡ true
-is-known (C.append k v) = refl
-is-known (C.insert k v) = refl
-is-known (C.insert-all k v out) = refl
+is-known (C.append p k v) = refl
+is-known (C.insert p k v) = refl
+is-known (C.insert-all p k v out) = refl
 is-known (C.remove k) = refl
 is-known (C.remove-all k out) = refl
 is-known (C.entry k) = refl
-is-known (C.occupied-append k v) = refl
-is-known (C.occupied-insert k v) = refl
+is-known (C.occupied-append p k v) = refl
+is-known (C.occupied-insert p k v) = refl
 is-known (C.occupied-remove-entry k) = refl
-is-known (C.vacant-insert k v) = refl
+is-known (C.vacant-insert p k v) = refl
 is-known C.pop-front = refl
 is-known C.pop-back = refl
 is-known (C.retain marks) = refl
@@ -45,7 +45,7 @@ is-known (C.keys out) = refl
 is-known C.keys-len = refl
 is-known C.values-len = refl
 is-known (C.iter ks vs) = refl
-is-known C.taken = refl
+is-known (C.taken out) = refl
 
 fits-again : (a n n2 n3 room room2 room3 space : ℕ) → known a n n2 n3 ≡ true → n ≤ room → n2 ≤ room2 → n3 ≤ room3 → 4 ≤ space → fits a n n2 n3 room room2 room3 space ≡ true
 unfolding fits
@@ -66,7 +66,7 @@ pub decode-encode : (cs : List Call) (space : ℕ) → 4 * length cs ≤ space �
 unfolding decode
 decode-encode [] space h = refl
 decode-encode (c ∷ cs) space h =
-    decode-call (view c .number) (view c .k) (view c .v) (length (view c .out)) (length (view c .out2)) (length (view c .marks)) (numbers cs) (lentOuts (c ∷ cs)) (lentOuts2 (c ∷ cs)) (allMarks (c ∷ cs)) space
+    decode-call (view c .number) (view c .poster) (view c .k) (view c .v) (length (view c .out)) (length (view c .out2)) (length (view c .marks)) (numbers cs) (lentOuts (c ∷ cs)) (lentOuts2 (c ∷ cs)) (allMarks (c ∷ cs)) space
     (fits-again (view c .number) (length (view c .out)) (length (view c .out2)) (length (view c .marks)) (length (lentOuts (c ∷ cs))) (length (lentOuts2 (c ∷ cs))) (length (allMarks (c ∷ cs))) space
     (is-known c) (front-in (view c .out) (lentOuts cs)) (front-in (view c .out2) (lentOuts2 cs)) (front-in (view c .marks) (allMarks cs)) (omega arith))
     ∙ rw (first (view c .out) (lentOuts cs), first (view c .out2) (lentOuts2 cs), first (view c .marks) (allMarks cs), behind (view c .out) (lentOuts cs), behind (view c .out2) (lentOuts2 cs), behind (view c .marks) (allMarks cs))

@@ -22,11 +22,11 @@ module _ (calls marks : List ℕ) (p : Place) (outs outs2 ans : List ℕ) (m : A
   stays : (q : Place) → q ≡ stopped p → rest calls marks p outs outs2 ans ≡ [] → Advanced calls marks p outs outs2 ans m q outs outs2 ans m
   stays q e r = rw e (record { keeps = λ outs₀ outs2₀ ans₀ m₀ v. v; ended = λ h. r; onward = λ h. absurd (false≢true h) })
 
-  pub stops-short : (q : Place) → q ≡ stopped p → length calls - p .call < 6 → Advanced calls marks p outs outs2 ans m q outs outs2 ans m
+  pub stops-short : (q : Place) → q ≡ stopped p → length calls - p .call < 7 → Advanced calls marks p outs outs2 ans m q outs outs2 ans m
   stops-short q e h = stays q e (ended-short calls outs outs2 marks ans (p .call) (p .out) (p .out2) (p .mark) (p .answer) h)
 
-  module _ (h : Head) (is : h ≡ headAt calls (p .call)) (inside : 6 ≤ length calls - p .call) (w : Within p calls outs outs2 marks ans) where
-    whole : p .call + 6 ≤ length calls
+  module _ (h : Head) (is : h ≡ headAt calls (p .call)) (inside : 7 ≤ length calls - p .call) (w : Within p calls outs outs2 marks ans) where
+    whole : p .call + 7 ≤ length calls
     whole = omega arith
 
     pub stops-not : (q : Place) → q ≡ stopped p → fitsHead h (length outs - p .out) (length outs2 - p .out2) (length marks - p .mark) (length ans - p .answer) ≡ false
@@ -57,7 +57,7 @@ module _ (calls marks : List ℕ) (p : Place) (outs outs2 ans : List ℕ) (m : A
         )
 
         pub goes-on : (q : Place) (m′ : Arrays) (o o2 k : List ℕ) → Past p h q → length o ≡ length (take n (drop (p .out) outs)) → length o2 ≡ length (take n2 (drop (p .out2) outs2))
-            → Told linked (callOf (h .op) (h .k) (h .v) (take n (drop (p .out) outs)) (take n2 (drop (p .out2) outs2)) (take n3 (drop (p .mark) marks))) m m′ o o2 k
+            → Told linked (callOf (h .op) (h .poster) (h .k) (h .v) (take n (drop (p .out) outs)) (take n2 (drop (p .out2) outs2)) (take n3 (drop (p .mark) marks))) m m′ o o2 k
             → Advanced calls marks p outs outs2 ans m q (putMid (p .out) n outs o) (putMid (p .out2) n2 outs2 o2) (putMid (p .answer) b ans k) m′
         goes-on q m′ o o2 k past ol o2l t =
             record {
@@ -93,7 +93,7 @@ at-within calls marks outs₀ outs2₀ ans₀ m₀ p outs outs2 ans m v =
 abbrev pub ahead : Place → List ℕ → ℕ
 ahead p calls = cond (p .more) (suc (length calls - p .call)) 0
 
-pub nearer : (p q : Place) (calls : List ℕ) → p .more ≡ true → q .call ≤ length calls → (q .more ≡ true → p .call + 6 ≤ q .call) → ahead q calls < ahead p calls
+pub nearer : (p q : Place) (calls : List ℕ) → p .more ≡ true → q .call ≤ length calls → (q .more ≡ true → p .call + 7 ≤ q .call) → ahead q calls < ahead p calls
 nearer p q calls e h o = rw e (go (q .more) refl)
   where
     go : (b : Bool) → q .more ≡ b → cond b (suc (length calls - q .call)) 0 < suc (length calls - p .call)
@@ -101,12 +101,12 @@ nearer p q calls e h o = rw e (go (q .more) refl)
     go false f = omega arith
 
 -- slices that the call does not have are empty, and stay so
-pub turned-told : {op k v : ℕ} {m m′ : Arrays} {out out2 marks out′ out2′ told ans : List ℕ} → Ready m op out out2
-    → Turned op k v m m′ out out2 marks out′ out2′ told → ans ≡ told → Told linked (callOf op k v out out2 marks) m m′ out′ out2′ ans
-turned-told {op} {k} {v} {m} {m′} {out} {out2} {marks} {out′} {out2′} {told} {ans} r t stored =
+pub turned-told : {op poster k v : ℕ} {m m′ : Arrays} {out out2 marks out′ out2′ told ans : List ℕ} → Ready m op out out2
+    → Turned op poster k v m m′ out out2 marks out′ out2′ told → ans ≡ told → Told linked (callOf op poster k v out out2 marks) m m′ out′ out2′ ans
+turned-told {op} {poster} {k} {v} {m} {m′} {out} {out2} {marks} {out′} {out2′} {told} {ans} r t stored =
     rw stored
-    (subst (λ (x : List ℕ). Told linked (callOf op k v out out2 marks) m m′ x out2′ told) (one (lends op) out′ (λ e. ap length (t .kept e) ∙ r .no-slice e))
-    (subst (λ (x : List ℕ). Told linked (callOf op k v out out2 marks) m m′ (had (lends op) out′) x told)
+    (subst (λ (x : List ℕ). Told linked (callOf op poster k v out out2 marks) m m′ x out2′ told) (one (lends op) out′ (λ e. ap length (t .kept e) ∙ r .no-slice e))
+    (subst (λ (x : List ℕ). Told linked (callOf op poster k v out out2 marks) m m′ (had (lends op) out′) x told)
     (one (lendsTwo op) out2′ (λ e. ap length (t .kept2 e) ∙ r .no-second e)) (t .told)))
   where
     none : (l : List ℕ) → length l ≡ 0 → [] ≡ l

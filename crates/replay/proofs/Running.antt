@@ -5,7 +5,7 @@ use mathlib.Core.Bool.{true, false}
 use mathlib.Core.List.{List, [], _∷_, _++_, append-assoc}
 use Prim.Native.Nat.{ℕ, suc, _+_, _-_, _≤_, _<_}
 use native.Mathlib.Nat.{add-zero, zero-add}
-use native.Mathlib.Numerals.{add-one, add-two, add-three, add-four, add-five, add-six}
+use native.Mathlib.Numerals.{add-one, add-two, add-three, add-four, add-five, add-six, add-seven}
 use native.Mathlib.Omega.{arith}
 use lib.ListN.{length, take, drop, getD, take-append-drop, length-append, length-drop}
 use lib.Seq.{drop-cons, drop-drop, take-at, drop-at, length-take-le}
@@ -31,31 +31,32 @@ module _ (xs ys : List ℕ) (a k : ℕ) (h : a + k ≤ length xs) (e : length ys
   length-mid : length (putMid a k xs ys) ≡ length xs
   length-mid = same-len-mid a k xs ys (e ∙ sym (length-take-le k (drop a xs) (omega (arith, length-drop a xs))))
 
-drop-six : (l : List ℕ) (i : ℕ) → i + 6 ≤ length l
-    → drop i l ≡ getD l i 0 ∷ getD l (i + 1) 0 ∷ getD l (i + 2) 0 ∷ getD l (i + 3) 0 ∷ getD l (i + 4) 0 ∷ getD l (i + 5) 0 ∷ drop (i + 6) l
-drop-six l i h =
-    rw (add-one, add-two, add-three, add-four, add-five, add-six)
+drop-seven : (l : List ℕ) (i : ℕ) → i + 7 ≤ length l
+    → drop i l ≡ getD l i 0 ∷ getD l (i + 1) 0 ∷ getD l (i + 2) 0 ∷ getD l (i + 3) 0 ∷ getD l (i + 4) 0 ∷ getD l (i + 5) 0 ∷ getD l (i + 6) 0 ∷ drop (i + 7) l
+drop-seven l i h =
+    rw (add-one, add-two, add-three, add-four, add-five, add-six, add-seven)
     (one i (omega arith)
     ∙ ap (λ (r : List ℕ). getD l i 0 ∷ r) (one (suc i) (omega arith)
     ∙ ap (λ (r : List ℕ). getD l (suc i) 0 ∷ r) (one (suc (suc i)) (omega arith)
     ∙ ap (λ (r : List ℕ). getD l (suc (suc i)) 0 ∷ r) (one (suc (suc (suc i))) (omega arith)
     ∙ ap (λ (r : List ℕ). getD l (suc (suc (suc i))) 0 ∷ r) (one (suc (suc (suc (suc i)))) (omega arith)
-    ∙ ap (λ (r : List ℕ). getD l (suc (suc (suc (suc i)))) 0 ∷ r) (one (suc (suc (suc (suc (suc i))))) (omega arith)))))))
+    ∙ ap (λ (r : List ℕ). getD l (suc (suc (suc (suc i)))) 0 ∷ r) (one (suc (suc (suc (suc (suc i))))) (omega arith)
+    ∙ ap (λ (r : List ℕ). getD l (suc (suc (suc (suc (suc i))))) 0 ∷ r) (one (suc (suc (suc (suc (suc (suc i)))))) (omega arith))))))))
   where
     one : (j : ℕ) → j < length l → drop j l ≡ getD l j 0 ∷ drop (suc j) l
     one j h = drop-cons l j 0 h
 
 -- no call is left from i on
 module _ (calls outs outs2 marks ans : List ℕ) (i at at2 at3 a : ℕ) where
-  pub ended-short : length calls - i < 6 → decode (drop i calls) (drop at outs) (drop at2 outs2) (drop at3 marks) (length (drop a ans)) ≡ []
+  pub ended-short : length calls - i < 7 → decode (drop i calls) (drop at outs) (drop at2 outs2) (drop at3 marks) (length (drop a ans)) ≡ []
   ended-short h = decode-short (drop i calls) (drop at outs) (drop at2 outs2) (drop at3 marks) (length (drop a ans)) (omega (arith, length-drop i calls))
 
-  pub ended-not : i + 6 ≤ length calls
-      → fits (getD calls i 0) (getD calls (i + 3) 0) (getD calls (i + 4) 0) (getD calls (i + 5) 0) (length outs - at) (length outs2 - at2) (length marks - at3) (length ans - a) ≡ false
+  pub ended-not : i + 7 ≤ length calls
+      → fits (getD calls i 0) (getD calls (i + 4) 0) (getD calls (i + 5) 0) (getD calls (i + 6) 0) (length outs - at) (length outs2 - at2) (length marks - at3) (length ans - a) ≡ false
       → decode (drop i calls) (drop at outs) (drop at2 outs2) (drop at3 marks) (length (drop a ans)) ≡ []
   ended-not h f =
-      rw (drop-six calls i h)
-      (decode-not (getD calls i 0) (getD calls (i + 1) 0) (getD calls (i + 2) 0) (getD calls (i + 3) 0) (getD calls (i + 4) 0) (getD calls (i + 5) 0) (drop (i + 6) calls)
+      rw (drop-seven calls i h)
+      (decode-not (getD calls i 0) (getD calls (i + 1) 0) (getD calls (i + 2) 0) (getD calls (i + 3) 0) (getD calls (i + 4) 0) (getD calls (i + 5) 0) (getD calls (i + 6) 0) (drop (i + 7) calls)
       (drop at outs) (drop at2 outs2) (drop at3 marks) (length (drop a ans))
       (rw (length-drop at outs, length-drop at2 outs2, length-drop at3 marks, length-drop a ans) f))
 
@@ -89,11 +90,11 @@ module _ {Map : Type 0} (M : Kind Map) where
       (v : Reached M calls outs₀ outs2₀ marks ans₀ m₀ outs outs2 ans held i at at2 at3 a ran) where
     -- one call more: n, n2 and n3 are the lengths of its slices, o, o2 and k what its slices and its answer now hold
     module _ (held′ : Map) (n n2 n3 : ℕ) (o o2 k : List ℕ)
-        (n-is : getD calls (i + 3) 0 ≡ n) (n2-is : getD calls (i + 4) 0 ≡ n2) (n3-is : getD calls (i + 5) 0 ≡ n3)
-        (calls-in : i + 6 ≤ length calls)
+        (n-is : getD calls (i + 4) 0 ≡ n) (n2-is : getD calls (i + 5) 0 ≡ n2) (n3-is : getD calls (i + 6) 0 ≡ n3)
+        (calls-in : i + 7 ≤ length calls)
         (f : fits (getD calls i 0) n n2 n3 (length outs - at) (length outs2 - at2) (length marks - at3) (length ans - a) ≡ true)
         (o-len : length o ≡ n) (o2-len : length o2 ≡ n2)
-        (t : Told M (callOf (getD calls i 0) (getD calls (i + 1) 0) (getD calls (i + 2) 0) (take n (drop at outs)) (take n2 (drop at2 outs2)) (take n3 (drop at3 marks))) held held′ o o2 k) where
+        (t : Told M (callOf (getD calls i 0) (getD calls (i + 1) 0) (getD calls (i + 2) 0) (getD calls (i + 3) 0) (take n (drop at outs)) (take n2 (drop at2 outs2)) (take n3 (drop at3 marks))) held held′ o o2 k) where
       g : Fits (getD calls i 0) n n2 n3 (length outs - at) (length outs2 - at2) (length marks - at3) (length ans - a)
       g = fits-says (getD calls i 0) n n2 n3 (length outs - at) (length outs2 - at2) (length marks - at3) (length ans - a) f
 
@@ -112,23 +113,23 @@ module _ {Map : Type 0} (M : Kind Map) where
       ans-in : a + 4 ≤ length ans
       ans-in = omega (arith, g .space-in, v .a-in)
 
-      goes : (x y z : List ℕ) (m : Map) (r : ℕ) → Ran M (drop (i + 6) calls) (drop n (drop at outs)) (drop n2 (drop at2 outs2)) (drop n3 (drop at3 marks)) (drop 4 (drop a ans)) held′ x y z m r
+      goes : (x y z : List ℕ) (m : Map) (r : ℕ) → Ran M (drop (i + 7) calls) (drop n (drop at outs)) (drop n2 (drop at2 outs2)) (drop n3 (drop at3 marks)) (drop 4 (drop a ans)) held′ x y z m r
           → Ran M (drop i calls) (drop at outs) (drop at2 outs2) (drop at3 marks) (drop a ans) held (o ++ x) (o2 ++ y) (k ++ z) m (suc r)
       goes x y z m s r =
-          rw (drop-six calls i calls-in, n-is, n2-is, n3-is)
-          (ran-call M (getD calls i 0) (getD calls (i + 1) 0) (getD calls (i + 2) 0) n n2 n3 (drop (i + 6) calls) (drop at outs) (drop at2 outs2) (drop at3 marks) (drop a ans) held held′ m o o2 k x y z s
+          rw (drop-seven calls i calls-in, n-is, n2-is, n3-is)
+          (ran-call M (getD calls i 0) (getD calls (i + 1) 0) (getD calls (i + 2) 0) (getD calls (i + 3) 0) n n2 n3 (drop (i + 7) calls) (drop at outs) (drop at2 outs2) (drop at3 marks) (drop a ans) held held′ m o o2 k x y z s
           (rw (length-drop at outs, length-drop at2 outs2, length-drop at3 marks, length-drop a ans) f) o-len o2-len t r)
 
       one-on : (s : ℕ) → ran + 1 + s ≡ ran + suc s
       one-on s = omega arith
 
-      on : (x y z : List ℕ) (m : Map) (r : ℕ) → Ran M (drop (i + 6) calls) (drop n (drop at outs)) (drop n2 (drop at2 outs2)) (drop (at3 + n3) marks) (drop 4 (drop a ans)) held′ x y z m r
+      on : (x y z : List ℕ) (m : Map) (r : ℕ) → Ran M (drop (i + 7) calls) (drop n (drop at outs)) (drop n2 (drop at2 outs2)) (drop (at3 + n3) marks) (drop 4 (drop a ans)) held′ x y z m r
           → Ran M calls outs₀ outs2₀ marks ans₀ m₀ ((take at outs ++ o) ++ x) ((take at2 outs2 ++ o2) ++ y) ((take a ans ++ k) ++ z) m (ran + 1 + r)
       on x y z m s r =
           rw (append-assoc (take at outs) o x, append-assoc (take at2 outs2) o2 y, append-assoc (take a ans) k z, one-on s)
           (v .left (o ++ x) (o2 ++ y) (k ++ z) m (suc s) (goes x y z m s (rw (drop-drop n3 at3 marks) r)))
 
-      pub turn-on : Reached M calls outs₀ outs2₀ marks ans₀ m₀ (putMid at n outs o) (putMid at2 n2 outs2 o2) (putMid a 4 ans k) held′ (i + 6) (at + n) (at2 + n2) (at3 + n3) (a + 4) (ran + 1)
+      pub turn-on : Reached M calls outs₀ outs2₀ marks ans₀ m₀ (putMid at n outs o) (putMid at2 n2 outs2 o2) (putMid a 4 ans k) held′ (i + 7) (at + n) (at2 + n2) (at3 + n3) (a + 4) (ran + 1)
       turn-on =
           record {
             i-in = calls-in;

@@ -26,7 +26,7 @@ use Rattle.multimap.specs.Arrays.{Arrays}
 use Rattle.multimap.proofs.Demand3.{demand-3}
 use Rattle.replay.specs.Played.{Played}
 
-pub decode-short : (calls outs outs2 marks : List ℕ) (space : ℕ) → length calls < 6 → decode calls outs outs2 marks space ≡ []
+pub decode-short : (calls outs outs2 marks : List ℕ) (space : ℕ) → length calls < 7 → decode calls outs outs2 marks space ≡ []
 unfolding decode
 decode-short [] o p q s h = refl
 decode-short (a ∷ []) o p q s h = refl
@@ -34,16 +34,17 @@ decode-short (a ∷ b ∷ []) o p q s h = refl
 decode-short (a ∷ b ∷ c ∷ []) o p q s h = refl
 decode-short (a ∷ b ∷ c ∷ d ∷ []) o p q s h = refl
 decode-short (a ∷ b ∷ c ∷ d ∷ e ∷ []) o p q s h = refl
-decode-short (a ∷ b ∷ c ∷ d ∷ e ∷ f ∷ l) o p q s h = absurd (omega arith)
+decode-short (a ∷ b ∷ c ∷ d ∷ e ∷ f ∷ []) o p q s h = refl
+decode-short (a ∷ b ∷ c ∷ d ∷ e ∷ f ∷ g ∷ l) o p q s h = absurd (omega arith)
 
-module _ (op k v n n2 n3 : ℕ) (calls outs outs2 marks : List ℕ) (space : ℕ) where
-  pub decode-not : fits op n n2 n3 (length outs) (length outs2) (length marks) space ≡ false → decode (op ∷ k ∷ v ∷ n ∷ n2 ∷ n3 ∷ calls) outs outs2 marks space ≡ []
+module _ (op poster k v n n2 n3 : ℕ) (calls outs outs2 marks : List ℕ) (space : ℕ) where
+  pub decode-not : fits op n n2 n3 (length outs) (length outs2) (length marks) space ≡ false → decode (op ∷ poster ∷ k ∷ v ∷ n ∷ n2 ∷ n3 ∷ calls) outs outs2 marks space ≡ []
   unfolding decode
   decode-not e = rw e refl
 
   pub decode-call : fits op n n2 n3 (length outs) (length outs2) (length marks) space ≡ true
-      → decode (op ∷ k ∷ v ∷ n ∷ n2 ∷ n3 ∷ calls) outs outs2 marks space
-      ≡ callOf op k v (take n outs) (take n2 outs2) (take n3 marks) ∷ decode calls (drop n outs) (drop n2 outs2) (drop n3 marks) (space - 4)
+      → decode (op ∷ poster ∷ k ∷ v ∷ n ∷ n2 ∷ n3 ∷ calls) outs outs2 marks space
+      ≡ callOf op poster k v (take n outs) (take n2 outs2) (take n3 marks) ∷ decode calls (drop n outs) (drop n2 outs2) (drop n3 marks) (space - 4)
   unfolding decode
   decode-call e = rw e refl
 
@@ -120,19 +121,19 @@ module _ {Map : Type 0} (M : Kind Map) where
   pub ran-ended : (calls outs outs2 marks ans : List ℕ) (m : Map) → decode calls outs outs2 marks (length ans) ≡ [] → Ran M calls outs outs2 marks ans m outs outs2 ans m 0
   ran-ended calls outs outs2 marks ans m e = record { outcomes = []; trace = rw e stop; outs-are = refl; outs2-are = refl; ans-are = refl; number = sym (ap length e) }
 
-  pub ran-call : (op k v n n2 n3 : ℕ) (calls outs outs2 marks ans : List ℕ) (m m₁ m′ : Map) (out out2 an o o2 a : List ℕ) (t : ℕ)
+  pub ran-call : (op poster k v n n2 n3 : ℕ) (calls outs outs2 marks ans : List ℕ) (m m₁ m′ : Map) (out out2 an o o2 a : List ℕ) (t : ℕ)
       → fits op n n2 n3 (length outs) (length outs2) (length marks) (length ans) ≡ true → length out ≡ n → length out2 ≡ n2
-      → Told M (callOf op k v (take n outs) (take n2 outs2) (take n3 marks)) m m₁ out out2 an
+      → Told M (callOf op poster k v (take n outs) (take n2 outs2) (take n3 marks)) m m₁ out out2 an
       → Ran M calls (drop n outs) (drop n2 outs2) (drop n3 marks) (drop 4 ans) m₁ o o2 a m′ t
-      → Ran M (op ∷ k ∷ v ∷ n ∷ n2 ∷ n3 ∷ calls) outs outs2 marks ans m (out ++ o) (out2 ++ o2) (an ++ a) m′ (suc t)
-  ran-call op k v n n2 n3 calls outs outs2 marks ans m m₁ m′ out out2 an o o2 a s e l l2 t r =
+      → Ran M (op ∷ poster ∷ k ∷ v ∷ n ∷ n2 ∷ n3 ∷ calls) outs outs2 marks ans m (out ++ o) (out2 ++ o2) (an ++ a) m′ (suc t)
+  ran-call op poster k v n n2 n3 calls outs outs2 marks ans m m₁ m′ out out2 an o o2 a s e l l2 t r =
       record {
         outcomes = t .outcome ∷ r .outcomes;
-        trace = rw (decode-call op k v n n2 n3 calls outs outs2 marks (length ans) e, ← length-drop 4 ans) (call (λ h. t .does) (r .trace));
+        trace = rw (decode-call op poster k v n n2 n3 calls outs outs2 marks (length ans) e, ← length-drop 4 ans) (call (λ h. t .does) (r .trace));
         outs-are = ap (λ (x : List ℕ). x ++ o) (t .out-is) ∙ join-over (t .outcome .slices .out) (outsOf (r .outcomes)) outs o n (sym (ap length (t .out-is)) ∙ l) (r .outs-are);
         outs2-are = ap (λ (x : List ℕ). x ++ o2) (t .out2-is) ∙ join-over (t .outcome .slices .out2) (outs2Of (r .outcomes)) outs2 o2 n2 (sym (ap length (t .out2-is)) ∙ l2) (r .outs2-are);
         ans-are = ap (λ (x : List ℕ). x ++ a) (t .ans-is) ∙ join-over (coded (t .outcome .answer)) (answersOf (r .outcomes)) ans a 4 (coded-length (t .outcome .answer)) (r .ans-are);
-        number = rw (decode-call op k v n n2 n3 calls outs outs2 marks (length ans) e, ← length-drop 4 ans) (ap suc (r .number));
+        number = rw (decode-call op poster k v n n2 n3 calls outs outs2 marks (length ans) e, ← length-drop 4 ans) (ap suc (r .number));
       }
 
 -- from the new linked map with the limits l

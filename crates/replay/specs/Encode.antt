@@ -4,11 +4,11 @@ use Prim.Native.Nat.{ℕ}
 use lib.ListN.{length}
 use Rattle.steps.specs.Call.{Call, view}
 
--- The slices of a list of calls: six numbers for each call, all out slices, all second ones, all marks.
+-- The slices of a list of calls: seven numbers for each call, all out slices, all second ones, all marks.
 abbrev pub numbers : List Call → List ℕ
 numbers [] = []
 numbers (c ∷ cs) =
-    view c .number ∷ view c .k ∷ view c .v ∷ length (view c .out) ∷ length (view c .out2) ∷ length (view c .marks) ∷ numbers cs
+    view c .number ∷ view c .poster ∷ view c .k ∷ view c .v ∷ length (view c .out) ∷ length (view c .out2) ∷ length (view c .marks) ∷ numbers cs
 
 abbrev pub lentOuts : List Call → List ℕ
 lentOuts [] = []

@@ -11,9 +11,18 @@ use Rattle.replay.specs.Tape.{known, fits, decode, Reached}
 use Rattle.replay.specs.declared.Head.{Head}
 use Rattle.replay.specs.declared.Place.{Place}
 
--- The six numbers from i on.
+-- The seven numbers from i on.
 abbrev pub headAt : List ℕ → ℕ → Head
-headAt l i = record { op = getD l i 0; k = getD l (i + 1) 0; v = getD l (i + 2) 0; n = getD l (i + 3) 0; n2 = getD l (i + 4) 0; n3 = getD l (i + 5) 0 }
+headAt l i =
+    record {
+      op = getD l i 0;
+      poster = getD l (i + 1) 0;
+      k = getD l (i + 2) 0;
+      v = getD l (i + 3) 0;
+      n = getD l (i + 4) 0;
+      n2 = getD l (i + 5) 0;
+      n3 = getD l (i + 6) 0;
+    }
 
 abbrev pub knownHead : Head → Bool
 knownHead h = known (h .op) (h .n) (h .n2) (h .n3)
@@ -34,7 +43,7 @@ stopped p = record { call = p .call; out = p .out; out2 = p .out2; mark = p .mar
 
 -- The sums that lead past the call at p are numbers of 64 bits.
 pub record Small (p : Place) (h : Head) : Type 0 where
-  pub call : p .call + 6 < 18446744073709551616
+  pub call : p .call + 7 < 18446744073709551616
   pub out : p .out + h .n < 18446744073709551616
   pub out2 : p .out2 + h .n2 < 18446744073709551616
   pub mark : p .mark + h .n3 < 18446744073709551616
@@ -43,7 +52,7 @@ pub record Small (p : Place) (h : Head) : Type 0 where
 
 -- q is past the call at p.
 pub record Past (p : Place) (h : Head) (q : Place) : Type 0 where
-  pub call : q .call ≡ p .call + 6
+  pub call : q .call ≡ p .call + 7
   pub out : q .out ≡ p .out + h .n
   pub out2 : q .out2 ≡ p .out2 + h .n2
   pub mark : q .mark ≡ p .mark + h .n3
@@ -74,4 +83,4 @@ module _ (calls marks : List ℕ) where
   pub record Advanced (p : Place) (outs outs2 ans : List ℕ) (m : Arrays) (q : Place) (outs′ outs2′ ans′ : List ℕ) (m′ : Arrays) : Type 0 where
     pub keeps : (outs₀ outs2₀ ans₀ : List ℕ) (m₀ : Arrays) → At outs₀ outs2₀ ans₀ m₀ p outs outs2 ans m → At outs₀ outs2₀ ans₀ m₀ q outs′ outs2′ ans′ m′
     pub ended : q .more ≡ false → rest q outs′ outs2′ ans′ ≡ []
-    pub onward : q .more ≡ true → p .call + 6 ≤ q .call
+    pub onward : q .more ≡ true → p .call + 7 ≤ q .call

@@ -1,6 +1,6 @@
--- A list of calls held in slices, and what a run of it leaves in them, for any kind of map. Six numbers for each call: its number in callOf's
--- table (crate steps), its arguments k and v, and the lengths of its out slice, its second out slice and its marks. The out slices, the second ones and the
--- marks stand one after the other, each kind in a slice of its own. An answer is four numbers.
+-- A list of calls held in slices, and what a run of it leaves in them, for any kind of map. Seven numbers for each call: its number in callOf's
+-- table (crate steps), its poster, its arguments k and v, and the lengths of its out slice, its second out slice and its marks. The out slices, the
+-- second ones and the marks stand one after the other, each kind in a slice of its own. An answer is four numbers.
 use mathlib.Core.Path.{_≡_}
 use mathlib.Core.Bool.{Bool, cond, _&&_, _||_}
 use mathlib.Core.List.{List, [], _∷_, _++_}
@@ -28,9 +28,10 @@ decode (a ∷ b ∷ []) outs outs2 marks space = []
 decode (a ∷ b ∷ c ∷ []) outs outs2 marks space = []
 decode (a ∷ b ∷ c ∷ d ∷ []) outs outs2 marks space = []
 decode (a ∷ b ∷ c ∷ d ∷ e ∷ []) outs outs2 marks space = []
-decode (op ∷ k ∷ v ∷ n ∷ n2 ∷ n3 ∷ calls) outs outs2 marks space =
+decode (a ∷ b ∷ c ∷ d ∷ e ∷ f ∷ []) outs outs2 marks space = []
+decode (op ∷ poster ∷ k ∷ v ∷ n ∷ n2 ∷ n3 ∷ calls) outs outs2 marks space =
     cond (fits op n n2 n3 (length outs) (length outs2) (length marks) space)
-    (callOf op k v (take n outs) (take n2 outs2) (take n3 marks) ∷ decode calls (drop n outs) (drop n2 outs2) (drop n3 marks) (space - 4))
+    (callOf op poster k v (take n outs) (take n2 outs2) (take n3 marks) ∷ decode calls (drop n outs) (drop n2 outs2) (drop n3 marks) (space - 4))
     []
 
 -- What a list of outcomes leaves in the out slices, the second ones and the answers.

@@ -6,6 +6,7 @@ use multimap::KeyIndex;
 use multimap::KeyLinks;
 use multimap::Keys;
 use multimap::Lengths;
+use multimap::Taken;
 use multimap::ValueLinks;
 use multimap::Values;
 ghost use mathlib.Core.Path.{_≡_};
@@ -45,7 +46,7 @@ pub extern "C" fn replay(
     let mut index = [0u16; 512];
     let mut members = [0u16; 4];
     let mut rounds = [0u16; 4];
-    let mut taken = 0u32;
+    let mut taken = [0u32; 16];
     let mut made = [0u64; 4];
     packing::om_new(
         &mut keys, &mut lengths, &mut next_key, &mut previous_key, &mut values, &mut key_index, &mut next_value,
@@ -58,9 +59,10 @@ pub extern "C" fn replay(
     )
 }
 
-// The six numbers of a call: which it is, its arguments, and the lengths of its out slice, its second one and its marks.
+// The seven numbers of a call: which it is, its poster, its arguments, and the lengths of its out slice, its second one and its marks.
 struct Head {
     op: u64,
+    poster: u64,
     k: u64,
     v: u64,
     n: u64,
@@ -80,16 +82,17 @@ struct Place {
 }
 
 fn read_head(calls: &[u64], i: usize) -> Head
-    requires { ⌜ i + 6 ≤ length (now calls) ⌝ }
+    requires { ⌜ i + 7 ≤ length (now calls) ⌝ }
     ensures { λ r. ⌜ r ≡ headAt (now (calls .entry)) i ⌝ }
 {
     Head {
         op: calls[i],
-        k: calls[i + 1],
-        v: calls[i + 2],
-        n: calls[i + 3],
-        n2: calls[i + 4],
-        n3: calls[i + 5],
+        poster: calls[i + 1],
+        k: calls[i + 2],
+        v: calls[i + 3],
+        n: calls[i + 4],
+        n2: calls[i + 5],
+        n3: calls[i + 6],
     }
 }
 
@@ -109,7 +112,7 @@ fn either(a: bool, b: bool) -> bool
 fn lends(op: u64) -> bool
     ensures { λ r. ⌜ r ≡ lendsOf op ⌝ }
 {
-    let last = either(op == 19, either(op == 22, false));
+    let last = either(op == 19, either(op == 22, either(op == 23, false)));
     either(op == 2, either(op == 4, either(op == 16, last)))
 }
 
@@ -155,7 +158,7 @@ fn after(p: Place, h: Head) -> Place
     let n3 = h.n3;
     let more = true;
     Place {
-        call: i + 6,
+        call: i + 7,
         out: o + n as usize,
         out2: o2 + n2 as usize,
         mark: k + n3 as usize,
@@ -171,7 +174,7 @@ fn run(
     keys: &mut Keys, lengths: &mut Lengths, next_key: &mut KeyLinks, previous_key: &mut KeyLinks,
     values: &mut Values, key_index: &mut KeyIndex, next_value: &mut ValueLinks, previous_value: &mut ValueLinks,
     next_index: &mut IndexLinks, previous_index: &mut IndexLinks, index: &mut Index,
-    members: &mut Counts, rounds: &mut Counts, taken: &mut u32,
+    members: &mut Counts, rounds: &mut Counts, taken: &mut Taken,
     calls: &[u64], outs: &mut [u64], outs2: &mut [u64], marks: &[u8], answers: &mut [u64],
 ) -> u64
     ghost { Arrays }
@@ -196,7 +199,7 @@ fn advance(
     keys: &mut Keys, lengths: &mut Lengths, next_key: &mut KeyLinks, previous_key: &mut KeyLinks,
     values: &mut Values, key_index: &mut KeyIndex, next_value: &mut ValueLinks, previous_value: &mut ValueLinks,
     next_index: &mut IndexLinks, previous_index: &mut IndexLinks, index: &mut Index,
-    members: &mut Counts, rounds: &mut Counts, taken: &mut u32,
+    members: &mut Counts, rounds: &mut Counts, taken: &mut Taken,
     p: Place, calls: &[u64], outs: &mut [u64], outs2: &mut [u64], marks: &[u8], answers: &mut [u64],
 ) -> Place
     ghost { Arrays }
@@ -210,7 +213,7 @@ fn advance(
     let at2 = p.out2;
     let at3 = p.mark;
     let a = p.answer;
-    if calls.len() - i < 6 {
+    if calls.len() - i < 7 {
         return stop(p);
     }
     let h = read_head(calls, i);
@@ -239,22 +242,23 @@ fn turn(
     keys: &mut Keys, lengths: &mut Lengths, next_key: &mut KeyLinks, previous_key: &mut KeyLinks,
     values: &mut Values, key_index: &mut KeyIndex, next_value: &mut ValueLinks, previous_value: &mut ValueLinks,
     next_index: &mut IndexLinks, previous_index: &mut IndexLinks, index: &mut Index,
-    members: &mut Counts, rounds: &mut Counts, taken: &mut u32,
+    members: &mut Counts, rounds: &mut Counts, taken: &mut Taken,
     h: Head, out: &mut [u64], out2: &mut [u64], marks: &[u8], ans: &mut [u64],
 )
     ghost { Arrays }
     requires { λ α. ⌜ lent keys lengths «next_key» «previous_key» values «key_index» «next_value» «previous_value» «next_index» «previous_index» index members rounds taken ≡ α ⌝ }
     requires { λ α. ⌜ Ready α (h .op) (now out) (now out2) × (length (now ans) ≡ 4) ⌝ }
-    ensures { λ α _. ⌜ Told linked (callOf (h .op) (h .k) (h .v) (now (out .entry)) (now (out2 .entry)) (now (marks .entry))) α (left keys lengths «next_key» «previous_key» values «key_index» «next_value» «previous_value» «next_index» «previous_index» index members rounds taken)
+    ensures { λ α _. ⌜ Told linked (callOf (h .op) (h .poster) (h .k) (h .v) (now (out .entry)) (now (out2 .entry)) (now (marks .entry))) α (left keys lengths «next_key» «previous_key» values «key_index» «next_value» «previous_value» «next_index» «previous_index» index members rounds taken)
         (now (out .exit)) (now (out2 .exit)) (now (ans .exit)) ⌝ }
 {
     let mut told = [0u64; 4];
     let op = h.op;
+    let poster = h.poster;
     let k = h.k;
     let v = h.v;
     turn::om_call(
         keys, lengths, next_key, previous_key, values, key_index, next_value, previous_value,
-        next_index, previous_index, index, members, rounds, taken, op, k, v, out, out2, marks, &mut told,
+        next_index, previous_index, index, members, rounds, taken, op, poster, k, v, out, out2, marks, &mut told,
     );
     store(told, ans);
 }

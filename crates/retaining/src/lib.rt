@@ -8,6 +8,7 @@ use multimap::KeyLinks;
 use multimap::Keys;
 use multimap::Lengths;
 use multimap::ROUNDS;
+use multimap::Taken;
 use multimap::ValueLinks;
 use multimap::ValuePlace;
 use multimap::Values;
@@ -33,7 +34,7 @@ pub extern "C" fn om_retain(
     keys: &mut Keys, lengths: &mut Lengths, next_key: &mut KeyLinks, previous_key: &mut KeyLinks,
     values: &mut Values, key_index: &mut KeyIndex, next_value: &mut ValueLinks, previous_value: &mut ValueLinks,
     next_index: &mut IndexLinks, previous_index: &mut IndexLinks, index: &mut Index,
-    members: &mut Counts, rounds: &mut Counts, taken: &mut u32,
+    members: &mut Counts, rounds: &mut Counts, taken: &mut Taken,
     marks: &[u8], answer: &mut [u64; 4],
 )
     ghost { Arrays }
@@ -88,7 +89,7 @@ fn thin(
     keys: &mut Keys, lengths: &mut Lengths, next_key: &mut KeyLinks, previous_key: &mut KeyLinks,
     values: &mut Values, key_index: &mut KeyIndex, next_value: &mut ValueLinks, previous_value: &mut ValueLinks,
     next_index: &mut IndexLinks, previous_index: &mut IndexLinks, index: &mut Index,
-    members: &mut Counts, rounds: &mut Counts, taken: &mut u32,
+    members: &mut Counts, rounds: &mut Counts, taken: &mut Taken,
     marks: &[u8], struck: u16,
 )
     ghost { Arrays }
@@ -118,7 +119,7 @@ fn turn(
     keys: &mut Keys, lengths: &mut Lengths, next_key: &mut KeyLinks, previous_key: &mut KeyLinks,
     values: &mut Values, key_index: &mut KeyIndex, next_value: &mut ValueLinks, previous_value: &mut ValueLinks,
     next_index: &mut IndexLinks, previous_index: &mut IndexLinks, index: &mut Index,
-    members: &mut Counts, rounds: &mut Counts, taken: &mut u32,
+    members: &mut Counts, rounds: &mut Counts, taken: &mut Taken,
     x: ValuePlace, mark: u8,
 )
     ghost { Arrays }

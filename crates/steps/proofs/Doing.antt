@@ -1,13 +1,18 @@
 -- How a function of a map is shown to do its step: from what the step comes to. Assumes nothing.
 use mathlib.Core.Path.{_≡_, refl, ap, sym, _∙_}
-use mathlib.Core.Bool.{false, true≢false}
+use mathlib.Core.Bool.{Bool, true, false, true≢false}
+use mathlib.Core.List.{List}
 use Prim.Native.Nat.{ℕ}
+use lib.Dec.{ltb}
 use Rattle.steps.specs.State.{State}
-use Rattle.steps.specs.Call.{Call, Outcome, pack-to}
+use Rattle.steps.specs.Call.{Call, Outcome, pack-to, refused, view, posts, lent}
 pub use Rattle.steps.specs.Call.{packs}
 use Rattle.steps.specs.Step.{step, refusing}
 use Rattle.steps.specs.Accounting.{isRefused}
 use Rattle.steps.specs.Trace.{Kind, Does}
+use Rattle.steps.specs.Coded.{coded}
+use Rattle.steps.specs.Told.{Told}
+use Rattle.steps.proofs.Checks.{poster-first}
 
 not-pack : (c : Call) → packs c ≡ false → (a b : ℕ) → c ≡ pack-to a b → ⊥
 not-pack c h a b e = true≢false (sym (ap packs e) ∙ h)
@@ -69,3 +74,14 @@ module _ {Map : Type 0} (M : Kind Map) (c : Call) (m : Map) where
         same = λ r. absurd (true≢false (sym r ∙ h));
         packed = λ a b j r. p;
       }
+
+  -- what a refusal tells
+  pub told-refused : (n : ℕ) (ans : List ℕ) → M .Linked m → step c (M .abs m) ≡ (refusing c n, M .abs m) → ans ≡ coded (refused n)
+      → Told M c m m (lent c .out) (lent c .out2) ans
+  told-refused n ans l e i =
+      record { outcome = refusing c n; does = does-refuse n l e; out-is = refl; out2-is = refl; ans-is = i }
+
+  -- a call that adds a round and names no poster is refused by 16
+  pub told-strange : posts (view c .number) ≡ true → M .Linked m → {b : Bool} → b ≡ ltb 15 (view c .poster) → b ≡ true
+      → {ans : List ℕ} → ans ≡ coded (refused 16) → Told M c m m (lent c .out) (lent c .out2) ans
+  told-strange p l is h {ans} i = told-refused 16 ans l (poster-first c (M .abs m) p (sym is ∙ h)) i

@@ -2,6 +2,7 @@ pub mod Marked
 pub mod Checks
 pub mod Filter
 pub mod Keeps
+pub mod Posters
 pub mod Proper
 pub mod Sums
 pub mod Taken

@@ -23,16 +23,16 @@ pop-limits (some p) rest s = refl
 
 act-limits : (c : Call) (s : State) → act c s .1 .limits ≡ s .limits
 unfolding act
-act-limits (C.append k v) s = refl
-act-limits (C.insert k v) s = refl
-act-limits (C.insert-all k v out) s = refl
+act-limits (C.append p k v) s = refl
+act-limits (C.insert p k v) s = refl
+act-limits (C.insert-all p k v out) s = refl
 act-limits (C.remove k) s = refl
 act-limits (C.remove-all k out) s = refl
 act-limits (C.entry k) s = refl
-act-limits (C.occupied-append k v) s = refl
-act-limits (C.occupied-insert k v) s = refl
+act-limits (C.occupied-append p k v) s = refl
+act-limits (C.occupied-insert p k v) s = refl
 act-limits (C.occupied-remove-entry k) s = refl
-act-limits (C.vacant-insert k v) s = refl
+act-limits (C.vacant-insert p k v) s = refl
 act-limits C.pop-front s = pop-limits (head? (s .pairs)) (tail (s .pairs)) s
 act-limits C.pop-back s = pop-limits (last? (s .pairs)) (dropLast (s .pairs)) s
 act-limits (C.retain ms) s = refl
@@ -46,7 +46,7 @@ act-limits (C.keys out) s = refl
 act-limits C.keys-len s = refl
 act-limits C.values-len s = refl
 act-limits (C.iter ks vs) s = refl
-act-limits C.taken s = refl
+act-limits (C.taken out) s = refl
 
 -- every call keeps the limits
 pub limits-kept : (c : Call) (s : State) → step c s .1 .limits ≡ s .limits
@@ -107,6 +107,7 @@ makes-new l = go (tooHigh l) refl
     go true e = rw (made-refused l e) record { state = refl; allowed = record { members = omega arith; rounds = omega arith } }
     go false e = rw (made-done l e) record { state = refl; allowed = allowed l e }
 
--- with a rounds' limit of 0 every append is refused by 1
-pub zero-rounds : (k v : ℕ) (s : State) → s .limits .rounds ≡ 0 → step (C.append k v) s ≡ (refusing (C.append k v) 1, s)
-zero-rounds k v s e = append-full k v s (le-leb (s .limits .rounds) (length (s .pairs)) (omega arith))
+-- with a rounds' limit of 0 every append of a poster is refused by 1
+pub zero-rounds : (p k v : ℕ) (s : State) → ltb 15 p ≡ false → s .limits .rounds ≡ 0
+    → step (C.append p k v) s ≡ (refusing (C.append p k v) 1, s)
+zero-rounds p k v s h e = append-full p k v s h (le-leb (s .limits .rounds) (length (s .pairs)) (omega arith))

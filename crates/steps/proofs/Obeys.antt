@@ -6,7 +6,7 @@ use native.Mathlib.Omega.{arith}
 use lib.ListN.{length}
 use Rattle.steps.specs.State.{State, empty}
 use Rattle.steps.specs.Call.{Call, Outcome, refused}
-use Rattle.steps.specs.Step.{step, after, outcomes}
+use Rattle.steps.specs.Step.{checks, ahead, refusal, step, after, outcomes}
 use Rattle.steps.specs.Accounting.{flowOf}
 use Rattle.steps.specs.Proper.{Proper, New}
 use Rattle.steps.specs.Trace.{Kind, Does, Trace, stop, call, Along, flowAlong, AppendExact, RefusedSame, PackedAfter, LimitsKept, Obeys}
@@ -42,10 +42,10 @@ module _ {Map : Type 0} (M : Kind Map) where
   along-linked Q q (call {m′} d t) l = let h = d l in (q m′ (h .linked), along-linked Q q t (h .linked))
 
   append-exact : (c : Call) (m : Map) (o : Outcome) (m′ : Map) → Proper (M .abs m) → Does M c m o m′ → AppendExact M c m o m′
-  append-exact c m o m′ p d k v e =
+  append-exact c m o m′ w d p k v e h =
       subst (λ (x : Outcome). (x .answer ≡ refused 1) ↔ (length (M .abs m .pairs) ≡ M .abs m .limits .rounds))
       (sym (d .outcome ∙ ap (λ (x : Call). step x (M .abs m) .0) e))
-      (append-refused k v (M .abs m) p)
+      (append-refused p k v (M .abs m) w (sym (ap (λ (x : Call). refusal (ahead 1 (checks x (M .abs m)))) e) ∙ h))
 
   pub obeys : {cs : List Call} {m m′ : Map} {os : List Outcome} (t : Trace M cs m os m′) → M .Linked m → New (M .abs m) → Obeys M t
   obeys {cs} {m} {m′} {os} t l new =

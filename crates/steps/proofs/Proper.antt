@@ -6,16 +6,17 @@ use mathlib.Core.Option.{Option, none, some}
 use Prim.Native.Nat.{ℕ, suc, _+_, _≤_}
 use native.Mathlib.Omega.{arith}
 use lib.Dec.{eqb}
-use lib.ListN.{length, length-append}
+use lib.ListN.{length, length-append, length-replicate}
 use borrow.Author.Tests.{leb-false}
 use Rattle.steps.specs.Lists.{last?}
 use Rattle.steps.specs.State as St
-use Rattle.steps.specs.State.{State, Limits, Pair, empty, of, has, others, kept, leave, absent, full, crowded, add, replace, remove-member, remove-pair, relist, keep}
+use Rattle.steps.specs.State.{State, Limits, Pair, posters, empty, of, has, others, kept, leave, absent, full, crowded, add, replace, remove-member, remove-pair, relist, keep}
 use Rattle.steps.specs.Call as C
 use Rattle.steps.specs.Call.{Call}
 use Rattle.steps.specs.Step.{Check, checks, refusal, pop, act, settle, step, after}
 use Rattle.steps.specs.Proper.{Allowed, Proper}
 use Rattle.steps.proofs.Filter.{length-split, length-filter, any-one, any-append}
+use Rattle.steps.proofs.Posters.{counting-length, counting-within, none-taken}
 use Rattle.steps.proofs.Keeps.{present-has, has-others, once-add, once-remove-member, once-off, once-keep, or-false, eqb-refl}
 
 -- the conditions of a call that is not refused: none holds
@@ -39,23 +40,25 @@ joined k s m h = go (St.present k s) h
     go true h = m
     go false h = rw length-append (omega (arith, leb-false))
 
-proper-add : (k v : ℕ) (s : State) → Proper s → full s ≡ false → (absent k s && crowded s) ≡ false → Proper (add k v s)
-proper-add k v s p f c =
+proper-add : (by k v : ℕ) (s : State) → Proper s → full s ≡ false → (absent k s && crowded s) ≡ false → Proper (add by k v s)
+proper-add by k v s p f c =
     record {
       once = once-add k v (s .members) (s .pairs) (s .pairs) (p .once) (λ j e. refl);
       rounds = rw length-append (omega (arith, leb-false));
       members = joined k s (p .members) c;
-      taken = omega arith;
+      posters = counting-length by (s .taken) ∙ p .posters;
+      taken = counting-within by (s .taken) (p .taken);
       allowed = p .allowed;
     }
 
-proper-replace : (k v : ℕ) (s : State) → Proper s → (absent k s && full s) ≡ false → (absent k s && crowded s) ≡ false → Proper (replace k v s)
-proper-replace k v s p f c =
+proper-replace : (by k v : ℕ) (s : State) → Proper s → (absent k s && full s) ≡ false → (absent k s && crowded s) ≡ false → Proper (replace by k v s)
+proper-replace by k v s p f c =
     record {
       once = once-add k v (s .members) (s .pairs) (others k (s .pairs)) (p .once) (λ j e. has-others j k e (s .pairs));
       rounds = rw length-append (go (St.present k s) refl f);
       members = joined k s (p .members) c;
-      taken = omega arith;
+      posters = counting-length by (s .taken) ∙ p .posters;
+      taken = counting-within by (s .taken) (p .taken);
       allowed = p .allowed;
     }
   where
@@ -69,6 +72,7 @@ proper-remove-member k s p =
       once = once-remove-member k (s .members) (s .pairs) (p .once);
       rounds = omega (arith, p .rounds, length-filter (λ q. not (of k q)) (s .pairs));
       members = omega (arith, p .members, length-filter (λ j. not (eqb k j)) (s .members));
+      posters = p .posters;
       taken = p .taken;
       allowed = p .allowed;
     }
@@ -86,6 +90,7 @@ proper-off p rest s q h =
           (λ j e. sym (h .has-all j ∙ ap (λ (b : Bool). b || has j rest) e));
       rounds = omega (arith, q .rounds, h .lengths);
       members = go (has (p .key) rest);
+      posters = q .posters;
       taken = q .taken;
       allowed = q .allowed;
     }
@@ -162,15 +167,16 @@ proper-keep ms s p =
       once = once-keep (s .members) (s .pairs) (kept ms (s .pairs)) (p .once) (λ j e. kept-has j ms (s .pairs) e);
       rounds = omega (arith, p .rounds, length-kept ms (s .pairs));
       members = omega (arith, p .members, length-filter (λ k. has k (kept ms (s .pairs))) (s .members));
+      posters = p .posters;
       taken = p .taken;
       allowed = p .allowed;
     }
 
 pub proper-empty : (l : Limits) → Allowed l → Proper (empty l)
-proper-empty l a = record { once = λ k. refl; rounds = omega arith; members = omega arith; taken = omega arith; allowed = a }
+proper-empty l a = record { once = λ k. refl; rounds = omega arith; members = omega arith; posters = length-replicate {A = ℕ} posters 0; taken = none-taken posters; allowed = a }
 
 proper-clear : (s : State) → Proper s → Proper (relist [] [] s)
-proper-clear s p = record { once = λ k. refl; rounds = omega arith; members = omega arith; taken = p .taken; allowed = p .allowed }
+proper-clear s p = record { once = λ k. refl; rounds = omega arith; members = omega arith; posters = p .posters; taken = p .taken; allowed = p .allowed }
 
 -- an absent member's condition is the condition; a present one's is none
 new : (k : ℕ) (s : State) (b : Bool) → St.present k s ≡ false → (absent k s && b) ≡ false → b ≡ false
@@ -181,16 +187,17 @@ known k s b e = rw e refl
 
 pub act-proper : (c : Call) (s : State) → Proper s → Pass (checks c s) → Proper (act c s .1)
 unfolding checks act
-act-proper (C.append k v) s p h = proper-add k v s p (h .0) (h .1 .0)
-act-proper (C.insert k v) s p h = proper-replace k v s p (h .0) (h .1 .0)
-act-proper (C.insert-all k v out) s p h = proper-replace k v s p (h .0) (h .1 .0)
+act-proper (C.append by k v) s p h = proper-add by k v s p (h .1 .0) (h .1 .1 .0)
+act-proper (C.insert by k v) s p h = proper-replace by k v s p (h .1 .0) (h .1 .1 .0)
+act-proper (C.insert-all by k v out) s p h = proper-replace by k v s p (h .1 .0) (h .1 .1 .0)
 act-proper (C.remove k) s p h = proper-remove-member k s p
 act-proper (C.remove-all k out) s p h = proper-remove-member k s p
 act-proper (C.entry k) s p h = p
-act-proper (C.occupied-append k v) s p h = proper-add k v s p (h .1 .0) (h .1 .1 .0)
-act-proper (C.occupied-insert k v) s p h = proper-replace k v s p (known k s (full s) (h .0)) (known k s (crowded s) (h .0))
+act-proper (C.occupied-append by k v) s p h = proper-add by k v s p (h .1 .1 .0) (h .1 .1 .1 .0)
+act-proper (C.occupied-insert by k v) s p h =
+    proper-replace by k v s p (known k s (full s) (h .1 .0)) (known k s (crowded s) (h .1 .0))
 act-proper (C.occupied-remove-entry k) s p h = proper-remove-member k s p
-act-proper (C.vacant-insert k v) s p h = proper-add k v s p (new k s (full s) (h .0) (h .1 .0)) (h .1 .1 .0)
+act-proper (C.vacant-insert by k v) s p h = proper-add by k v s p (new k s (full s) (h .1 .0) (h .1 .1 .0)) (h .1 .1 .1 .0)
 act-proper C.pop-front s p h = proper-pop s (head? (s .pairs)) (tail (s .pairs)) p (front (s .pairs))
 act-proper C.pop-back s p h = proper-pop s (last? (s .pairs)) (dropLast (s .pairs)) p (back (s .pairs))
 act-proper (C.retain ms) s p h = proper-keep ms s p
@@ -204,7 +211,7 @@ act-proper (C.keys out) s p h = p
 act-proper C.keys-len s p h = p
 act-proper C.values-len s p h = p
 act-proper (C.iter ks vs) s p h = p
-act-proper C.taken s p h = p
+act-proper (C.taken out) s p h = p
 
 pub step-proper : (c : Call) (s : State) → Proper s → Proper (step c s .1)
 unfolding step

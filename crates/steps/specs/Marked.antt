@@ -3,7 +3,7 @@ use mathlib.Core.Bool.{true, false, cond}
 use mathlib.Core.List.{List, [], _∷_, _++_}
 use Prim.Native.Nat.{ℕ}
 use lib.Dec.{eqb}
-use lib.ListN.{length}
+use lib.ListN.{length, replicate}
 use Rattle.steps.specs.Lists.{any}
 use Rattle.steps.specs.State.{State, Pair, Limits, highest}
 use Rattle.steps.specs.Call.{Call, Outcome, refused, none, count, present, popped, append, insert-all, remove-all, pop-front, pop-back, retain, pack-to}
@@ -19,9 +19,13 @@ abbrev pub firsts : List ℕ → List Pair → List ℕ
 firsts met [] = met
 firsts met (p ∷ ps) = firsts (cond (any (eqb (p .key)) met) met (met ++ (p .key ∷ []))) ps
 
--- the state of these pairs on a map with the limits l
+-- T where n rounds were taken in, all by the poster 0
+abbrev pub restored : ℕ → List ℕ
+restored n = n ∷ replicate 15 0
+
+-- the state of these pairs on a map with the limits l, all posted by 0
 abbrev pub start : Limits → List Pair → State
-start l ps = record { pairs = ps; members = firsts [] ps; taken = length ps; limits = l }
+start l ps = record { pairs = ps; members = firsts [] ps; taken = restored (length ps); limits = l }
 
 -- a case: P; the call; its outcome; P and K afterwards
 pub record Row : Type 0 where
@@ -38,9 +42,9 @@ row before call outcome pairs members =
 abbrev pub table : List Row
 table =
     row [] pop-front (say none) [] []
-    ∷ row [] (append 7 10) (say (present false)) (7 ∶ 10 ∷ []) (7 ∷ [])
-    ∷ row (7 ∶ 10 ∷ []) (append 7 11) (say (present true)) (7 ∶ 10 ∷ 7 ∶ 11 ∷ []) (7 ∷ [])
-    ∷ row (7 ∶ 10 ∷ 9 ∶ 20 ∷ 7 ∶ 11 ∷ []) (insert-all 7 12 (1 ∷ 2 ∷ 3 ∷ []))
+    ∷ row [] (append 0 7 10) (say (present false)) (7 ∶ 10 ∷ []) (7 ∷ [])
+    ∷ row (7 ∶ 10 ∷ []) (append 0 7 11) (say (present true)) (7 ∶ 10 ∷ 7 ∶ 11 ∷ []) (7 ∷ [])
+    ∷ row (7 ∶ 10 ∷ 9 ∶ 20 ∷ 7 ∶ 11 ∷ []) (insert-all 0 7 12 (1 ∷ 2 ∷ 3 ∷ []))
     (write (count 2) (10 ∷ 11 ∷ 3 ∷ [])) (9 ∶ 20 ∷ 7 ∶ 12 ∷ []) (7 ∷ 9 ∷ [])
     ∷ row (9 ∶ 20 ∷ []) (remove-all 5 (1 ∷ [])) (write (count 0) (1 ∷ [])) (9 ∶ 20 ∷ []) (9 ∷ [])
     ∷ row (9 ∶ 20 ∷ 7 ∶ 12 ∷ []) pop-back (say (popped 7 12 true)) (9 ∶ 20 ∷ []) (9 ∷ [])

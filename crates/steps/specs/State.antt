@@ -3,7 +3,7 @@ use mathlib.Core.Bool.{Bool, cond, not}
 use mathlib.Core.List.{List, [], _∷_, _++_, map}
 use Prim.Native.Nat.{ℕ, _+_, min}
 use lib.Dec.{eqb, leb}
-use lib.ListN.{length}
+use lib.ListN.{length, getD, set, replicate}
 use Rattle.steps.specs.Lists.{filter, any}
 
 -- A pair (member, round).
@@ -24,14 +24,18 @@ pub record State : Type 0 where
   pub pairs : List Pair
   -- K: the members in joining order
   pub members : List ℕ
-  -- T: the rounds ever taken in
-  pub taken : ℕ
+  -- T: the rounds ever taken in, a counter for each poster (document 02, No. 2)
+  pub taken : List ℕ
   pub limits : Limits
 
-abbrev pub empty : Limits → State
-empty l = record { pairs = []; members = []; taken = 0; limits = l }
+-- How many posters there are: the numbers from 0 to 15.
+abbrev pub posters : ℕ
+posters = 16
 
--- The highest limits that a map may have, and the ceiling of T.
+abbrev pub empty : Limits → State
+empty l = record { pairs = []; members = []; taken = replicate posters 0; limits = l }
+
+-- The highest limits that a map may have, and the ceiling of each counter of T.
 abbrev pub maxRounds : ℕ
 maxRounds = 1024
 
@@ -88,19 +92,23 @@ leave k ks = filter (λ j. not (eqb k j)) ks
 abbrev pub relist : List Pair → List ℕ → State → State
 relist ps ks s = record { pairs = ps; members = ks; taken = s .taken; limits = s .limits }
 
--- Adding (k, v): the pair goes to the back of P, a new k to the back of K, and T counts it up to its ceiling.
-abbrev pub add : ℕ → ℕ → State → State
-add k v s =
+-- One more round by the poster p: p's counter counts it up to its ceiling.
+abbrev pub counting : ℕ → List ℕ → List ℕ
+counting p t = set t p (min (getD t p 0 + 1) maxTaken)
+
+-- The poster p adds (k, v): the pair goes to the back of P, a new k to the back of K, and T counts it for p.
+abbrev pub add : ℕ → ℕ → ℕ → State → State
+add p k v s =
     record {
       pairs = s .pairs ++ (record { key = k; value = v } ∷ []);
       members = cond (present k s) (s .members) (s .members ++ (k ∷ []));
-      taken = min (s .taken + 1) maxTaken;
+      taken = counting p (s .taken);
       limits = s .limits;
     }
 
--- k's old pairs leave P and (k, v) is added; a present k keeps its place in K.
-abbrev pub replace : ℕ → ℕ → State → State
-replace k v s = add k v (relist (others k (s .pairs)) (s .members) s)
+-- k's old pairs leave P and the poster p adds (k, v); a present k keeps its place in K.
+abbrev pub replace : ℕ → ℕ → ℕ → State → State
+replace p k v s = add p k v (relist (others k (s .pairs)) (s .members) s)
 
 -- k's pairs leave P, and k leaves K.
 abbrev pub remove-member : ℕ → State → State

@@ -5,7 +5,7 @@ use mathlib.Core.Option.{Option, some}
 use mathlib.Core.Option as Opt
 use Prim.Native.Nat.{ℕ}
 use lib.Dec.{eqb, ltb}
-use lib.ListN.{length, drop}
+use lib.ListN.{length, take, drop}
 use Rattle.steps.specs.Lists.{all, last?}
 use Rattle.steps.specs.State as St
 use Rattle.steps.specs.State.{State, Pair, full, crowded, absent, rounds, add, replace, remove-member, remove-pair, relist, keep, kept, has, Limits, limit, empty, maxRounds, maxMembers}
@@ -20,6 +20,10 @@ short out l = ltb (length out) (length l)
 abbrev pub Check : Type 0
 Check = Bool × ℕ
 
+-- 16, before every other row of a call that adds a round: there is no such poster (document 02, No. 2)
+abbrev pub posting : ℕ → List Check → List Check
+posting p rows = (ltb 15 p, 16) ∷ rows
+
 -- 1 and 2: a round of k is added
 abbrev pub adding : ℕ → State → List Check
 adding k s = (full s, 1) ∷ (absent k s && crowded s, 2) ∷ []
@@ -30,16 +34,17 @@ joining k s = (absent k s && full s, 1) ∷ (absent k s && crowded s, 2) ∷ []
 
 -- the rows of the table for a call, in order
 unfoldable pub checks : Call → State → List Check
-checks (C.append k v) s = adding k s
-checks (C.insert k v) s = joining k s
-checks (C.insert-all k v out) s = joining k s ++ ((St.present k s && short out (rounds k (s .pairs)), 3) ∷ [])
+checks (C.append p k v) s = posting p (adding k s)
+checks (C.insert p k v) s = posting p (joining k s)
+checks (C.insert-all p k v out) s =
+    posting p (joining k s ++ ((St.present k s && short out (rounds k (s .pairs)), 3) ∷ []))
 checks (C.remove k) s = []
 checks (C.remove-all k out) s = (St.present k s && short out (rounds k (s .pairs)), 3) ∷ []
 checks (C.entry k) s = []
-checks (C.occupied-append k v) s = (absent k s, 9) ∷ adding k s
-checks (C.occupied-insert k v) s = (absent k s, 9) ∷ []
+checks (C.occupied-append p k v) s = posting p ((absent k s, 9) ∷ adding k s)
+checks (C.occupied-insert p k v) s = posting p ((absent k s, 9) ∷ [])
 checks (C.occupied-remove-entry k) s = (absent k s, 9) ∷ []
-checks (C.vacant-insert k v) s = (St.present k s, 10) ∷ joining k s
+checks (C.vacant-insert p k v) s = posting p ((St.present k s, 10) ∷ joining k s)
 checks C.pop-front s = []
 checks C.pop-back s = []
 checks (C.retain marks) s =
@@ -55,7 +60,12 @@ checks (C.keys out) s = (short out (s .members), 3) ∷ []
 checks C.keys-len s = []
 checks C.values-len s = []
 checks (C.iter ks vs) s = (short ks (s .pairs) || short vs (s .pairs), 3) ∷ []
-checks C.taken s = []
+checks (C.taken out) s = []
+
+-- the rows that stand before the first with the number n
+abbrev pub ahead : ℕ → List Check → List Check
+ahead n [] = []
+ahead n (c ∷ cs) = cond (eqb n (c .1)) [] (c ∷ ahead n cs)
 
 -- the number of the first condition that holds
 abbrev pub refusal : List Check → Option ℕ
@@ -65,6 +75,10 @@ refusal (c ∷ cs) = cond (c .0) (some (c .1)) (refusal cs)
 -- l over the front of a slice; what stands past it is kept
 abbrev pub over : List ℕ → List ℕ → List ℕ
 over l out = l ++ drop (length l) out
+
+-- the same where a slice may be too short for l: as much of l as it holds
+abbrev pub onto : List ℕ → List ℕ → List ℕ
+onto l out = take (length out) l ++ drop (length l) out
 
 -- a record's first round, or none
 abbrev pub first : List ℕ → Answer
@@ -89,18 +103,18 @@ entryOf false k s = vacant k
 
 -- what a call does where it is not refused
 unfoldable pub act : Call → State → Outcome × State
-act (C.append k v) s = (say (present (St.present k s)), add k v s)
-act (C.insert k v) s = (say (first (rounds k (s .pairs))), replace k v s)
-act (C.insert-all k v out) s =
-    (write (count (length (rounds k (s .pairs)))) (over (rounds k (s .pairs)) out), replace k v s)
+act (C.append p k v) s = (say (present (St.present k s)), add p k v s)
+act (C.insert p k v) s = (say (first (rounds k (s .pairs))), replace p k v s)
+act (C.insert-all p k v out) s =
+    (write (count (length (rounds k (s .pairs)))) (over (rounds k (s .pairs)) out), replace p k v s)
 act (C.remove k) s = (say (first (rounds k (s .pairs))), remove-member k s)
 act (C.remove-all k out) s =
     (write (count (length (rounds k (s .pairs)))) (over (rounds k (s .pairs)) out), remove-member k s)
 act (C.entry k) s = (say (entryOf (St.present k s) k s), s)
-act (C.occupied-append k v) s = (say done, add k v s)
-act (C.occupied-insert k v) s = (say (first (rounds k (s .pairs))), replace k v s)
+act (C.occupied-append p k v) s = (say done, add p k v s)
+act (C.occupied-insert p k v) s = (say (first (rounds k (s .pairs))), replace p k v s)
 act (C.occupied-remove-entry k) s = (say (first (rounds k (s .pairs))), remove-member k s)
-act (C.vacant-insert k v) s = (say done, add k v s)
+act (C.vacant-insert p k v) s = (say done, add p k v s)
 act C.pop-front s = pop (head? (s .pairs)) (tail (s .pairs)) s
 act C.pop-back s = pop (last? (s .pairs)) (dropLast (s .pairs)) s
 act (C.retain marks) s =
@@ -117,7 +131,7 @@ act C.keys-len s = (say (count (length (s .members))), s)
 act C.values-len s = (say (count (length (s .pairs))), s)
 act (C.iter ks vs) s =
     (record { answer = count (length (s .pairs)); slices = lend (over (map (λ p. p .key) (s .pairs)) ks) (over (map (λ p. p .value) (s .pairs)) vs) }, s)
-act C.taken s = (say (count (s .taken)), s)
+act (C.taken out) s = (write (count (length (take (length out) (s .taken)))) (onto (s .taken) out), s)
 
 -- the outcome of a refusal by n: its number, and the slices as they were
 abbrev pub refusing : Call → ℕ → Outcome

@@ -3,13 +3,14 @@ use mathlib.Core.Path.{_≡_}
 use mathlib.Core.Logic.{_↔_}
 use mathlib.Core.Bool.{true, false}
 use mathlib.Core.List.{List, [], _∷_}
+use mathlib.Core.Option.{none}
 use Prim.Native.Nat.{ℕ, _+_, min}
-use lib.ListN.{length}
+use lib.ListN.{length, getD}
 use Rattle.steps.specs.State.{State, empty, maxTaken}
 use Rattle.steps.specs.Call.{Call, Outcome, refused, append, pack-to}
 use Rattle.steps.specs.Step as S
-use Rattle.steps.specs.Step.{step, after}
-use Rattle.steps.specs.Accounting.{isRefused, Flow, moves, plus}
+use Rattle.steps.specs.Step.{checks, ahead, refusal, step, after}
+use Rattle.steps.specs.Accounting.{isRefused, Flow, nobody, total, moves, plus}
 use Rattle.steps.specs.Proper.{Proper}
 
 -- a kind of map: the state that one represents; what it is to be well-linked; and to have its places as pack_to leaves them
@@ -40,12 +41,13 @@ module _ {Map : Type 0} (M : Kind Map) where
 
   -- the rounds accepted, handed out and dropped, by what the map held and answered
   abbrev pub flowAlong : {cs : List Call} {m m′ : Map} {os : List Outcome} → Trace cs m os m′ → Flow
-  flowAlong stop = record { accepted = 0; handed = 0; dropped = 0 }
+  flowAlong stop = record { accepted = nobody; handed = 0; dropped = 0 }
   flowAlong (call {c} {m} {o} d t) = plus (moves c (M .abs m) o) (flowAlong t)
 
-  -- an append is refused by 1 exactly when the club's limit of rounds is held just before it
+  -- an append that no check placed before 1 turns away is refused by 1 exactly when the club's limit of rounds is held just before it
   abbrev pub AppendExact : Call → Map → Outcome → Map → Type 0
-  AppendExact c m o m′ = (k v : ℕ) → c ≡ append k v → (o .answer ≡ refused 1) ↔ (length (M .abs m .pairs) ≡ M .abs m .limits .rounds)
+  AppendExact c m o m′ = (p k v : ℕ) → c ≡ append p k v → refusal (ahead 1 (checks c (M .abs m))) ≡ none
+      → (o .answer ≡ refused 1) ↔ (length (M .abs m .pairs) ≡ M .abs m .limits .rounds)
 
   -- a refused call gives back its very map
   abbrev pub RefusedSame : Call → Map → Outcome → Map → Type 0
@@ -66,10 +68,10 @@ module _ {Map : Type 0} (M : Kind Map) where
     pub state : M .abs m′ ≡ after cs (empty (M .abs m .limits))
     pub linked : M .Linked m′
     pub linked-all : Along (λ c m o m′. M .Linked m′) t
-    -- accepted = held + handed out + dropped
-    pub balanced : flowAlong t .accepted ≡ length (M .abs m′ .pairs) + flowAlong t .handed + flowAlong t .dropped
-    -- T is the accepted rounds, or its ceiling
-    pub counted : M .abs m′ .taken ≡ min (flowAlong t .accepted) maxTaken
+    -- accepted, of all posters summed = held + handed out + dropped
+    pub balanced : total (flowAlong t .accepted) ≡ length (M .abs m′ .pairs) + flowAlong t .handed + flowAlong t .dropped
+    -- each counter of T is the rounds accepted from its poster, or its ceiling; a number past the posters has none
+    pub counted : (p : ℕ) → getD (M .abs m′ .taken) p 0 ≡ min (flowAlong t .accepted p) maxTaken
     pub appends : Along AppendExact t
     pub proper : Proper (M .abs m′)
     pub same : Along RefusedSame t

@@ -59,7 +59,7 @@ abbrev pub partsText : List ℕ → List ℕ
 partsText s =
     runText
     (limitsIn (numbersOf (partOf s)))
-    (take 49152 (numbersOf (partOf (restOf s))))
+    (take 57344 (numbersOf (partOf (restOf s))))
     (take 8192 (numbersOf (partOf (restOf (restOf s)))))
     (take 8192 (numbersOf (partOf (restOf (restOf (restOf s))))))
     (take 8192 (marksOf (partOf (restOf (restOf (restOf (restOf s)))))))

@@ -92,7 +92,7 @@ fn print_parts(one: &[u8], out: &mut [u8], at: usize) -> usize
     let five = rest(four);
     let six = rest(five);
     let mut limits = [0u64; 2];
-    let mut calls = [0u64; 49152];
+    let mut calls = [0u64; 57344];
     let mut outs = [0u64; 8192];
     let mut outs2 = [0u64; 8192];
     let mut marks = [0u8; 8192];

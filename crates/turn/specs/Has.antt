@@ -5,7 +5,7 @@ use mathlib.Core.List.{List}
 use Rattle.multimap.specs.Arrays.{Arrays}
 
 -- these are arrays of the map
-pub record Has (α : Arrays) (keys lengths next-key values key-index next-value next-index index members rounds : List ℕ) (taken : ℕ)
+pub record Has (α : Arrays) (keys lengths next-key values key-index next-value next-index index members rounds taken : List ℕ)
     : Type 0 where
   pub keys-are : keys ≡ α .keys
   pub lengths-are : lengths ≡ α .lengths

@@ -7,6 +7,7 @@ use multimap::KeyIndex;
 use multimap::KeyLinks;
 use multimap::Keys;
 use multimap::Lengths;
+use multimap::Taken;
 use multimap::ValueLinks;
 use multimap::Values;
 ghost use Prim.Native.Nat.{ℕ, _<_, _≤_};
@@ -18,7 +19,7 @@ ghost use Rattle.multimap.specs.WellLinked.{WellLinked};
 ghost use Rattle.turn.specs.Turned.{Turned};
 ghost use Rattle.turn.specs.Has.{Has};
 
-// Makes the call with the number `op`; from 24 on that is `taken`. `k` and `v` are its arguments.
+// Makes the call with the number `op`; from 24 on that is `values_len`. `poster`, `k` and `v` are its arguments.
 // A slice that it does not have is left as it is.
 #[no_mangle]
 #[rattlefmt::skip]
@@ -26,25 +27,25 @@ pub extern "C" fn om_call(
     keys: &mut Keys, lengths: &mut Lengths, next_key: &mut KeyLinks, previous_key: &mut KeyLinks,
     values: &mut Values, key_index: &mut KeyIndex, next_value: &mut ValueLinks, previous_value: &mut ValueLinks,
     next_index: &mut IndexLinks, previous_index: &mut IndexLinks, index: &mut Index,
-    members: &mut Counts, rounds: &mut Counts, taken: &mut u32,
-    op: u64, k: u64, v: u64, out: &mut [u64], out2: &mut [u64], marks: &[u8], answer: &mut [u64; 4],
+    members: &mut Counts, rounds: &mut Counts, taken: &mut Taken,
+    op: u64, poster: u64, k: u64, v: u64, out: &mut [u64], out2: &mut [u64], marks: &[u8], answer: &mut [u64; 4],
 )
     ghost { Arrays }
     requires { λ α. ⌜ lent keys lengths «next_key» «previous_key» values «key_index» «next_value» «previous_value» «next_index» «previous_index» index members rounds taken ≡ α ⌝ }
     requires { λ α. ⌜ WellLinked α ⌝ }
-    ensures { λ α _. ⌜ Turned op k v α (left keys lengths «next_key» «previous_key» values «key_index» «next_value» «previous_value» «next_index» «previous_index» index members rounds taken) (now (out .entry)) (now (out2 .entry)) (now (marks .entry)) (now (out .exit)) (now (out2 .exit)) (now (answer .exit)) ⌝ }
+    ensures { λ α _. ⌜ Turned op poster k v α (left keys lengths «next_key» «previous_key» values «key_index» «next_value» «previous_value» «next_index» «previous_index» index members rounds taken) (now (out .entry)) (now (out2 .entry)) (now (marks .entry)) (now (out .exit)) (now (out2 .exit)) (now (answer .exit)) ⌝ }
 {
     if op < 8 {
         turn_first::call_below_8(
             keys, lengths, next_key, previous_key, values, key_index, next_value, previous_value,
-            next_index, previous_index, index, members, rounds, taken, op, k, v, out, answer,
+            next_index, previous_index, index, members, rounds, taken, op, poster, k, v, out, answer,
         );
         return;
     }
     if op < 16 {
         turn_second::call_below_16(
             keys, lengths, next_key, previous_key, values, key_index, next_value, previous_value,
-            next_index, previous_index, index, members, rounds, taken, op, k, v, marks, answer,
+            next_index, previous_index, index, members, rounds, taken, op, poster, k, v, marks, answer,
         );
         return;
     }
@@ -58,7 +59,7 @@ pub extern "C" fn om_call(
 #[rattlefmt::skip]
 fn read_from_16<'a>(
     keys: &'a Keys, lengths: &'a Lengths, next_key: &'a KeyLinks, values: &'a Values, key_index: &'a KeyIndex, next_value: &'a ValueLinks,
-    next_index: &'a IndexLinks, index: &'a Index, members: &'a Counts, rounds: &'a Counts, taken: &u32,
+    next_index: &'a IndexLinks, index: &'a Index, members: &'a Counts, rounds: &'a Counts, taken: &Taken,
     op: u64, k: u64, out: &mut [u64], out2: &mut [u64], answer: &mut [u64; 4],
 )
     requires { ⌜ 16 ≤ op ⌝ }
@@ -66,7 +67,7 @@ fn read_from_16<'a>(
         → Has α (now (keys .entry)) (now (lengths .entry)) (now («next_key» .entry)) (now (values .entry))
         (now («key_index» .entry)) (now («next_value» .entry)) (now («next_index» .entry)) (now (index .entry))
         (now (members .entry)) (now (rounds .entry)) (now (taken .entry))
-        → (v : ℕ) (marks : List ℕ) → Turned op k v α α (now (out .entry)) (now (out2 .entry)) marks (now (out .exit)) (now (out2 .exit))
+        → (poster v : ℕ) (marks : List ℕ) → Turned op poster k v α α (now (out .entry)) (now (out2 .entry)) marks (now (out .exit)) (now (out2 .exit))
         (now (answer .exit))) ⌝ }
 {
     match op {
@@ -75,8 +76,8 @@ fn read_from_16<'a>(
         18 => reading::om_contains_key(keys, index, k, answer),
         19 => reading::om_keys(keys, next_key, members, out, answer),
         20 => reading::om_keys_len(members, answer),
-        21 => reading::om_values_len(rounds, answer),
         22 => reading::om_iter(keys, values, key_index, next_value, rounds, out, out2, answer),
-        _ => reading::om_taken(taken, answer),
+        23 => reading::write_counters(taken, out, answer),
+        _ => reading::om_values_len(rounds, answer),
     }
 }

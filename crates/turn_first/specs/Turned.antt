@@ -12,7 +12,7 @@ use Rattle.multimap.specs.WellLinked.{linked}
 abbrev pub had : Bool → List ℕ → List ℕ
 had b out = cond b out []
 
-pub record Turned (op k v : ℕ) (α α′ : Arrays) (out out2 marks out′ out2′ ans : List ℕ) : Type 0 where
-  pub told : Told linked (callOf op k v out out2 marks) α α′ (had (lends op) out′) (had (lendsTwo op) out2′) ans
+pub record Turned (op poster k v : ℕ) (α α′ : Arrays) (out out2 marks out′ out2′ ans : List ℕ) : Type 0 where
+  pub told : Told linked (callOf op poster k v out out2 marks) α α′ (had (lends op) out′) (had (lendsTwo op) out2′) ans
   pub kept : lends op ≡ false → out′ ≡ out
   pub kept2 : lendsTwo op ≡ false → out2′ ≡ out2

@@ -6,6 +6,7 @@ use multimap::KeyIndex;
 use multimap::KeyLinks;
 use multimap::Keys;
 use multimap::Lengths;
+use multimap::Taken;
 use multimap::ValueLinks;
 use multimap::Values;
 ghost use Prim.Native.Nat.{ℕ, _<_, _≤_};
@@ -22,13 +23,13 @@ pub fn call_below_16(
     keys: &mut Keys, lengths: &mut Lengths, next_key: &mut KeyLinks, previous_key: &mut KeyLinks,
     values: &mut Values, key_index: &mut KeyIndex, next_value: &mut ValueLinks, previous_value: &mut ValueLinks,
     next_index: &mut IndexLinks, previous_index: &mut IndexLinks, index: &mut Index,
-    members: &mut Counts, rounds: &mut Counts, taken: &mut u32,
-    op: u64, k: u64, v: u64, marks: &[u8], answer: &mut [u64; 4],
+    members: &mut Counts, rounds: &mut Counts, taken: &mut Taken,
+    op: u64, poster: u64, k: u64, v: u64, marks: &[u8], answer: &mut [u64; 4],
 )
     ghost { Arrays }
     requires { λ α. ⌜ lent keys lengths «next_key» «previous_key» values «key_index» «next_value» «previous_value» «next_index» «previous_index» index members rounds taken ≡ α ⌝ }
     requires { λ α. ⌜ WellLinked α ⌝ }
-    ensures { λ α _. ⌜ (8 ≤ op → op < 16 → (out out2 : List ℕ) → Turned op k v α (left keys lengths «next_key» «previous_key» values «key_index» «next_value» «previous_value» «next_index» «previous_index» index members rounds taken) out out2 (now (marks .entry)) out out2 (now (answer .exit))) ⌝ }
+    ensures { λ α _. ⌜ (8 ≤ op → op < 16 → (out out2 : List ℕ) → Turned op poster k v α (left keys lengths «next_key» «previous_key» values «key_index» «next_value» «previous_value» «next_index» «previous_index» index members rounds taken) out out2 (now (marks .entry)) out out2 (now (answer .exit))) ⌝ }
 {
     match op {
         8 => entries::om_occupied_remove_entry(
@@ -37,7 +38,7 @@ pub fn call_below_16(
         ),
         9 => entries::om_vacant_insert(
             keys, lengths, next_key, previous_key, values, key_index, next_value, previous_value,
-            next_index, previous_index, index, members, rounds, taken, k, v, answer,
+            next_index, previous_index, index, members, rounds, taken, poster, k, v, answer,
         ),
         10 => popping::om_pop_front(
             keys, lengths, next_key, previous_key, values, key_index, next_value, previous_value,

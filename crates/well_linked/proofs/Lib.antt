@@ -1,5 +1,4 @@
 -- Laws that belong to no one function.
-pub mod Repeats
 pub mod Marking
 pub mod Ways
 pub mod Fill

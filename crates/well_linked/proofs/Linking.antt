@@ -6,6 +6,7 @@ use mathlib.Core.Bool.{Bool, true, false}
 use mathlib.Core.List.{List, _++_}
 use native.Mathlib.Omega.{arith}
 use lib.ListN.{length, replicate, length-append}
+use Rattle.steps.proofs.Posters.{repeated}
 use Rattle.index.proofs.Pigeon.{less-or-not}
 use Rattle.index.proofs.Agree.{if-true, if-false}
 use Rattle.links.specs.Route.{bit, tally, Route}
@@ -13,7 +14,6 @@ use Rattle.links.specs.Places.{Places, order, freed, Linked}
 use Rattle.links.proofs.Routes.{tally-append}
 use Rattle.links.proofs.Lists.{length-walk, length-order, place-below, place-once}
 use Rattle.well_linked.specs.Marks.{marks, New, Marks}
-use Rattle.well_linked.proofs.Repeats.{repeated}
 use Rattle.well_linked.proofs.Fill.{filled}
 
 -- nothing is marked in an array of `false`

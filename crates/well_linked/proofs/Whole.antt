@@ -5,7 +5,8 @@ use mathlib.Core.Bool.{Bool, true, false}
 use mathlib.Core.List.{List}
 use native.Mathlib.Omega.{arith}
 use lib.ListN.{length, getD, replicate, length-replicate}
-use Rattle.steps.specs.State.{maxMembers, maxRounds, maxTaken}
+use Rattle.steps.specs.State.{maxMembers, maxRounds}
+use Rattle.steps.proofs.Posters.{repeated}
 use Rattle.index.specs.Agree.{Lists}
 use Rattle.index.specs.Table.{Holds}
 use Rattle.links.specs.Route.{bit, tally}
@@ -13,11 +14,10 @@ use Rattle.links.specs.Places.{order, Linked}
 use Rattle.links.proofs.Lists.{length-order, in-array}
 use Rattle.multimap.specs.Arrays.{Arrays, Sized}
 use Rattle.multimap.specs.Map.{at, roundsOf, membersOf}
-use Rattle.multimap.specs.WellLinked.{WellLinked, Limited}
+use Rattle.multimap.specs.WellLinked.{WellLinked, Counted, Limited}
 use Rattle.multimap.proofs.Stores.{mem-tally, tally-mem}
 use Rattle.well_linked.specs.Marks.{marks}
 use Rattle.well_linked.specs.Chains.{Used, Inside, Chains, Begun, Followed, Ends, Recorded}
-use Rattle.well_linked.proofs.Repeats.{repeated}
 
 pub begun : (tail : List ℕ) → length tail ≡ 256 → ((k : ℕ) → k < 256 → at tail k ≡ 1024 + k) → Begun tail (replicate 256 0)
 begun tail l b = record { bases = b; none = λ k. repeated ℕ 256 k 0; long-tail = l; long-many = length-replicate {A = ℕ} 256 0 }
@@ -104,7 +104,7 @@ module _ (m : Arrays) (r : Linked (roundsOf m)) (g : Linked (membersOf m)) (used
         some = λ k l e. w .some k (of-use k e);
       }
 
-  pub well-linked-so : Records m used → Sized m → m .taken ≤ maxTaken → Limited m → Holds (m .index) (m .keys) ks → WellLinked m
+  pub well-linked-so : Records m used → Sized m → Counted m → Limited m → Holds (m .index) (m .keys) ks → WellLinked m
   well-linked-so c s t b h =
       record {
         sized = s;

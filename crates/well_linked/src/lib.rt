@@ -9,6 +9,7 @@ use multimap::Keys;
 use multimap::Lengths;
 use multimap::MEMBERS;
 use multimap::ROUNDS;
+use multimap::Taken;
 use multimap::ValueLinks;
 use multimap::Values;
 ghost use mathlib.Core.Path.{_≡_};
@@ -31,13 +32,15 @@ pub fn well_linked<'a>(
     keys: &'a Keys, lengths: &'a Lengths, next_key: &'a KeyLinks, previous_key: &'a KeyLinks,
     values: &'a Values, key_index: &'a KeyIndex, next_value: &'a ValueLinks, previous_value: &'a ValueLinks,
     next_index: &'a IndexLinks, previous_index: &'a IndexLinks, index: &'a Index,
-    members: &'a Counts, rounds: &'a Counts, taken: &'a u32,
+    members: &'a Counts, rounds: &'a Counts, taken: &'a Taken,
 ) -> bool
     ghost { Arrays }
     requires { λ α. ⌜ lent keys lengths «next_key» «previous_key» values «key_index» «next_value» «previous_value» «next_index» «previous_index» index members rounds taken ≡ α ⌝ }
     ensures { λ α r. ⌜ Decides r (WellLinked α) ⌝ }
 {
-    shown(keys, lengths, values, key_index, next_index, previous_index, index, members, rounds, *taken);
+    let counters: &[u32] = taken;
+    let counter = counters[0];
+    shown(keys, lengths, values, key_index, next_index, previous_index, index, members, rounds, counter);
     if !is_limited(rounds, ROUNDS) {
         return false;
     }
@@ -70,7 +73,7 @@ pub extern "C" fn om_well_linked<'a>(
     keys: &'a Keys, lengths: &'a Lengths, next_key: &'a KeyLinks, previous_key: &'a KeyLinks,
     values: &'a Values, key_index: &'a KeyIndex, next_value: &'a ValueLinks, previous_value: &'a ValueLinks,
     next_index: &'a IndexLinks, previous_index: &'a IndexLinks, index: &'a Index,
-    members: &'a Counts, rounds: &'a Counts, taken: &'a u32,
+    members: &'a Counts, rounds: &'a Counts, taken: &'a Taken,
 ) -> u64
     ghost { Arrays }
     requires { λ α. ⌜ lent keys lengths «next_key» «previous_key» values «key_index» «next_value» «previous_value» «next_index» «previous_index» index members rounds taken ≡ α ⌝ }
@@ -80,7 +83,7 @@ pub extern "C" fn om_well_linked<'a>(
         previous_index, index, members, rounds, taken) { 1 } else { 0 }
 }
 
-// Does nothing: arrays that are lent as slices tell the proof how long they are, and a number that is read tells it its bound.
+// Does nothing: arrays that are lent as slices tell the proof how long they are, and a counter that is read, that each is within its bound.
 fn shown<'a>(
     keys: &'a [u64],
     lengths: &'a [u16],
@@ -91,7 +94,7 @@ fn shown<'a>(
     index: &'a [u16],
     members: &'a [u16],
     rounds: &'a [u16],
-    taken: u32,
+    counter: u32,
 ) {}
 
 // Says whether a list's limit is at most `most`, and no more places are in use.

@@ -24,7 +24,7 @@ tell-requires c κs = search needs
 returns : tie.Need-returns
 returns c =
     let s = c .before .before .before .before .before in
-    turned-full (given s) (s .args .k) (s .args .v) (s .args .at) (answerOf (s .args .welcome))
+    turned-full (given s) (s .args .poster) (s .args .k) (s .args .v) (s .args .at) (answerOf (s .args .welcome))
     (c .before .before .if1 .taken) _ (c .tell .ensures)
 
 element-copy-out-joined : tie.Need-element-copy-out-joined
@@ -40,7 +40,7 @@ returns-2 : tie.Need-returns-2
 returns-2 c =
     let room = c .before .before .before .before .before in
     let s = room .before .before .before in
-    turned-crowded (given s) (s .args .k) (s .args .v) (s .args .at) (answerOf (s .args .welcome))
+    turned-crowded (given s) (s .args .poster) (s .args .k) (s .args .v) (s .args .at) (answerOf (s .args .welcome))
     (room .if1 .left) (c .before .before .if2 .taken) _ (c .tell2 .ensures)
 
 join-requires : tie.Need-join-requires
@@ -59,7 +59,7 @@ returns-3 c =
     let spare = joined .before .before .before .before .before .before .before .before .before .before .before .before .before .before .before in
     let room = spare .before .before .before in
     let s = room .before .before .before in
-    let-in (given s) (s .args .k) (s .args .v) (s .args .at) (answerOf (s .args .welcome)) (room .if1 .left) (spare .if2 .left)
+    let-in (given s) (s .args .poster) (s .args .k) (s .args .v) (s .args .at) (answerOf (s .args .welcome)) (room .if1 .left) (spare .if2 .left)
     (joined .join .ensures .0) (joined .join .ensures .1) _ (added .add .ensures) _ (c .tell3 .ensures)
 
 pub admit-spec : {M : Type 1} → statement M

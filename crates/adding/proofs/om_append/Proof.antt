@@ -1,6 +1,9 @@
 -- `adding::om_append` meets its contract. Assumes nothing.
-use mathlib.Core.Path.{sym, _∙_}
+use mathlib.Core.Path.{refl, sym, _∙_}
+use Rattle.steps.specs.Call.{append}
+use Rattle.steps.proofs.Doing.{told-strange}
 use Rattle.multimap.specs.Arrays.{Arrays, arrays}
+use Rattle.multimap.specs.WellLinked.{linked}
 use Rattle.adding.proofs.Appends.{told-full, told-known, told-new}
 use borrow.Author.Needs.{needs}
 use Rattle.adding.proofs.om_append.Statement.{statement}
@@ -11,6 +14,20 @@ given s =
     arrays (s .args .keys .now) (s .args .lengths .now) (s .args .next-key .now) (s .args .previous-key .now) (s .args .values .now)
     (s .args .key-index .now) (s .args .next-value .now) (s .args .previous-value .now) (s .args .next-index .now)
     (s .args .previous-index .now) (s .args .index .now) (s .args .members .now) (s .args .rounds .now) (s .args .taken .now)
+
+no-poster-requires : tie.Need-no-poster-requires
+no-poster-requires c κs = search needs
+
+tell-requires : tie.Need-tell-requires
+tell-requires c κs = search needs
+
+returns : tie.Need-returns
+returns c =
+    let test = c .before .before in
+    let asked = test .before in
+    let s = asked .before in
+    told-strange linked (append (s .args .poster) (s .args .k) (s .args .v)) (given s) refl (s .pre)
+    (asked .no-poster .ensures) (test .if1 .taken) (c .tell .ensures)
 
 find-requires : tie.Need-find-requires
 find-requires c κs = search needs
@@ -24,29 +41,34 @@ element-copy-out-held c = search needs
 element-copy-out-most : tie.Need-element-copy-out-most
 element-copy-out-most c = search needs
 
-tell-requires : tie.Need-tell-requires
-tell-requires c κs = search needs
-
-returns : tie.Need-returns
-returns c =
-    let s = c .before .before .before .before .before .before .before .before .before .before .before in
-    told-full (given s) (s .pre) (s .args .k) (s .args .v) (c .before .before .if1 .taken) _ (c .tell .ensures)
-
-add-requires : tie.Need-add-requires
-add-requires c κs = search needs
-
 tell-requires-2 : tie.Need-tell-requires-2
 tell-requires-2 c κs = search needs
 
 returns-2 : tie.Need-returns-2
 returns-2 c =
+    let test = c .before .before .before .before .before .before .before .before .before .before .before in
+    let asked = test .before in
+    let s = asked .before in
+    told-full (given s) (s .pre) (s .args .poster) (s .args .k) (s .args .v) (asked .no-poster .ensures) (test .if1 .left)
+    (c .before .before .if2 .taken) _ (c .tell2 .ensures)
+
+add-requires : tie.Need-add-requires
+add-requires c κs = search needs
+
+tell-requires-3 : tie.Need-tell-requires-3
+tell-requires-3 c κs = search needs
+
+returns-3 : tie.Need-returns-3
+returns-3 c =
     let added = c .before .before in
     let room = added .before .before .before .before .before .before .before .before .before .before .before .before .before .before .before in
     let seen = room .before .before .before .before in
     let search = seen .before .before in
-    let s = search .before .before .before in
-    told-known (given s) (s .pre) (s .args .k) (s .args .v) (room .if1 .left) _ _ _ (sym (search .find .ensures) ∙ seen .found .given .1)
-    _ (added .add .ensures) _ (c .tell2 .ensures)
+    let test = search .before .before .before in
+    let asked = test .before in
+    let s = asked .before in
+    told-known (given s) (s .pre) (s .args .poster) (s .args .k) (s .args .v) (asked .no-poster .ensures) (test .if1 .left)
+    (room .if2 .left) _ _ _ (sym (search .find .ensures) ∙ seen .found .given .1) _ (added .add .ensures) _ (c .tell3 .ensures)
 
 enum-known-found-2 : tie.Need-enum-known-found-2
 enum-known-found-2 c = search needs
@@ -54,27 +76,32 @@ enum-known-found-2 c = search needs
 admit-requires : tie.Need-admit-requires
 admit-requires c κs = search needs
 
-returns-3 : tie.Need-returns-3
-returns-3 c =
+returns-4 : tie.Need-returns-4
+returns-4 c =
     let seen = c .before .before .before .before .before .before .before .before .before .before .before .before .before .before .before .before .before in
     let search = seen .before .before in
-    let s = search .before .before .before in
-    told-new (given s) (s .pre) (s .args .k) (s .args .v) _ _ (sym (search .find .ensures) ∙ seen .found2 .given .1)
-    _ _ (c .admit .ensures)
+    let test = search .before .before .before in
+    let asked = test .before in
+    let s = asked .before in
+    told-new (given s) (s .pre) (s .args .poster) (s .args .k) (s .args .v) (asked .no-poster .ensures) (test .if1 .left)
+    _ _ (sym (search .find .ensures) ∙ seen .found2 .given .1) _ _ (c .admit .ensures)
 
 pub om-append-spec : {M : Type 1} → statement M
 om-append-spec =
     tie.close
     (tie.spec
+    no-poster-requires
+    tell-requires
+    returns
     find-requires
     enum-known-found
     element-copy-out-held
     element-copy-out-most
-    tell-requires
-    returns
-    add-requires
     tell-requires-2
     returns-2
+    add-requires
+    tell-requires-3
+    returns-3
     enum-known-found-2
     admit-requires
-    returns-3)
+    returns-4)

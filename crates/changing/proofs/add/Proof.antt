@@ -38,8 +38,8 @@ put-requires c κs = search needs
 put-requires-2 : tie.Need-put-requires-2
 put-requires-2 c κs = search needs
 
-more-requires : tie.Need-more-requires
-more-requires c κs = search needs
+count-requires : tie.Need-count-requires
+count-requires c κs = search needs
 
 returns : tie.Need-returns
 returns c =
@@ -53,9 +53,9 @@ returns c =
     let cell = list .before .before .before in
     let place = cell .before in
     let s = place .before .before .before .before in
-    round-stored (given s) (s .args .key .0) (s .args .v) (place .take .ensures .0) (place .take .ensures .1) (cell .base .ensures)
+    round-stored (given s) (s .args .poster) (s .args .key .0) (s .args .v) (place .take .ensures .0) (place .take .ensures .1) (cell .base .ensures)
     (list .link .ensures .0) (list .link .ensures .1) (chain .link2 .ensures .0) (chain .link2 .ensures .1) (length .get .ensures)
-    (longer .one-more .ensures) (value .put-wide .ensures) (owner .put .ensures) (lengths .put2 .ensures) (c .more .ensures)
+    (longer .one-more .ensures) (value .put-wide .ensures) (owner .put .ensures) (lengths .put2 .ensures) (c .count .ensures)
 
 pub add-spec : {M : Type 1} → statement M
 add-spec =
@@ -70,5 +70,5 @@ add-spec =
     put-wide-requires
     put-requires
     put-requires-2
-    more-requires
+    count-requires
     returns)

@@ -1,5 +1,9 @@
 -- `entries::om_occupied_insert` meets its contract. Assumes nothing.
+use mathlib.Core.Path.{refl, sym, _∙_}
+use Rattle.steps.specs.Call.{occupied-insert}
+use Rattle.steps.proofs.Doing.{told-strange}
 use Rattle.multimap.specs.Arrays.{Arrays, arrays}
+use Rattle.multimap.specs.WellLinked.{linked}
 use Rattle.entries.proofs.Calls.{no-insert, inserted}
 use borrow.Author.Needs.{needs}
 use Rattle.entries.proofs.om_occupied_insert.Statement.{statement}
@@ -11,33 +15,62 @@ given s =
     (s .args .key-index .now) (s .args .next-value .now) (s .args .previous-value .now) (s .args .next-index .now)
     (s .args .previous-index .now) (s .args .index .now) (s .args .members .now) (s .args .rounds .now) (s .args .taken .now)
 
-entry-requires : tie.Need-entry-requires
-entry-requires c κs = search needs
-
-enum-told : tie.Need-enum-told
-enum-told c = search needs
+no-poster-requires : tie.Need-no-poster-requires
+no-poster-requires c κs = search needs
 
 tell-requires : tie.Need-tell-requires
 tell-requires c κs = search needs
 
 returns : tie.Need-returns
 returns c =
+    let test = c .before .before in
+    let posted = test .before in
+    let s = posted .before in
+    told-strange linked (occupied-insert (s .args .poster) (s .args .k) (s .args .v)) (given s) refl (s .pre)
+    (posted .no-poster .ensures) (test .if1 .taken) (c .tell .ensures)
+
+entry-requires : tie.Need-entry-requires
+entry-requires c κs = search needs
+
+enum-told : tie.Need-enum-told
+enum-told c = search needs
+
+tell-requires-2 : tie.Need-tell-requires-2
+tell-requires-2 c κs = search needs
+
+returns-2 : tie.Need-returns-2
+returns-2 c =
     let other = c .before .before in
     let asked = other .before in
-    let s = asked .before .before .before .before in
-    no-insert (given s) (s .pre) (s .args .k) (asked .entry .result) (asked .entry .ensures) (other .match .keys2) (c .tell .ensures) (s .args .v)
+    let test = asked .before .before .before .before in
+    let posted = test .before in
+    let s = posted .before in
+    no-insert (given s) (s .pre) (s .args .k) (asked .entry .result) (asked .entry .ensures) (other .match .keys2) (c .tell2 .ensures)
+    (s .args .poster) (s .args .v) (sym (posted .no-poster .ensures) ∙ test .if1 .left)
 
 om-insert-requires : tie.Need-om-insert-requires
 om-insert-requires c κs = search needs
 
-returns-2 : tie.Need-returns-2
-returns-2 c =
+returns-3 : tie.Need-returns-3
+returns-3 c =
     let this = c .before .before .before .before .before .before .before .before .before .before .before .before .before .before .before .before .before in
     let asked = this .before in
-    let s = asked .before .before .before .before in
-    inserted (given s) (s .pre) (s .args .k) (asked .entry .result) (asked .entry .ensures) (this .match .keys1) (s .args .v) (c .om-insert .ensures)
+    let test = asked .before .before .before .before in
+    let posted = test .before in
+    let s = posted .before in
+    inserted (given s) (s .pre) (s .args .k) (asked .entry .result) (asked .entry .ensures) (this .match .keys1)
+    (s .args .poster) (s .args .v) (sym (posted .no-poster .ensures) ∙ test .if1 .left) (c .om-insert .ensures)
 
 pub om-occupied-insert-spec : {M : Type 1} → statement M
 om-occupied-insert-spec =
     tie.close
-    (tie.spec entry-requires enum-told tell-requires returns om-insert-requires returns-2)
+    (tie.spec
+    no-poster-requires
+    tell-requires
+    returns
+    entry-requires
+    enum-told
+    tell-requires-2
+    returns-2
+    om-insert-requires
+    returns-3)

@@ -21,7 +21,7 @@ returns : tie.Need-returns
 returns c =
     let emptied = c .before .before .before .before .before .before .before .before .before .before .before .before .before .before .before in
     let s = emptied .before .before .before .before .before .before .before .before .before .before .before .before .before .before .before in
-    only-one (given s) (s .args .key .0) (s .args .v) (emptied .empty .ensures) (c .add .ensures)
+    only-one (given s) (s .args .poster) (s .args .key .0) (s .args .v) (emptied .empty .ensures) (c .add .ensures)
 
 pub replace-spec : {M : Type 1} → statement M
 replace-spec = tie.close (tie.spec empty-requires add-requires returns)

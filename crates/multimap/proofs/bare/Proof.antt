@@ -6,6 +6,7 @@ use Prim.Native.Nat.{ℕ}
 use mathlib.Core.List.{map}
 use lib.ListN.{set, replicate, length, getD-replicate, length-replicate, length-map, length-set, List·getD-map}
 use lib.Seq.{getD-set-same}
+use Rattle.steps.proofs.Posters.{none-taken}
 use Rattle.index.proofs.Table.{bare}
 use Rattle.multimap.specs.Map.{at}
 use Rattle.multimap.specs.Arrays.{keyNumber, valueNumber, keyPlace, valuePlace}
@@ -40,7 +41,7 @@ long-set f n x i y = length-map (set (replicate n x) i y) f ∙ length-set (repl
 
 returns : tie.Need-returns
 returns c =
-    empty-map _ refl refl 0 refl refl refl last-value last-value last-key last-key
+    empty-map _ refl refl (replicate 16 0) refl refl refl last-value last-value last-key last-key
     record {
       keys = length-replicate {A = ℕ} 256 0;
       lengths = length-replicate {A = ℕ} 256 0;
@@ -55,8 +56,9 @@ returns c =
       index = length-replicate {A = ℕ} 512 65535;
       members = refl;
       rounds = refl;
+      taken = length-replicate {A = ℕ} 16 0;
     }
-    (bare _ _ refl (λ p lp. getD-replicate 512 p 65535 0 lp)) (c .pre) (omega arith)
+    (bare _ _ refl (λ p lp. getD-replicate 512 p 65535 0 lp)) (c .pre) (none-taken 16)
 
 pub bare-spec : {M : Type 1} → statement M
 bare-spec =

@@ -8,7 +8,7 @@ use Rattle.ordered_multimap.proofs.lending.Tie as tie
 returns : tie.Need-returns
 returns c =
     let made = c .before .before .before in
-    no-second typed (made .before .before .before .before .before .args .op) (made .make .last .1 .1 .1 .1 .1 .0) (made .make .ensures)
+    no-second typed (made .before .before .before .before .before .args .op) (made .make .last .1 .1 .1 .1 .1 .1 .0) (made .make .ensures)
     (search needs)
 
 pub lending-spec : {M : Type 1} → statement M

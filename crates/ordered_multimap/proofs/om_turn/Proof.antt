@@ -14,7 +14,7 @@ module _ (w : tie.After-om-call-arg3) where
   loans = w .before .before .before .before .before .before .before .before .before .before .before .before .before .before .before .before
 
   abbrev indices : tie.After-index-links2
-  indices = loans .before .before .before .before
+  indices = loans .before .before .before .before .before
 
   abbrev values : tie.After-value-links2
   values = indices .before .before .before .before

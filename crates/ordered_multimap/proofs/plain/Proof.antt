@@ -8,7 +8,7 @@ use Rattle.ordered_multimap.proofs.plain.Tie as tie
 returns : tie.Need-returns
 returns c =
     let made = c .before .before in
-    no-slices typed (made .before .before .before .before .args .op) (made .make .last .1 .1 .1 .1 .0) (made .make .last .1 .1 .1 .1 .1 .0) (made .make .ensures)
+    no-slices typed (made .before .before .before .before .args .op) (made .make .last .1 .1 .1 .1 .1 .0) (made .make .last .1 .1 .1 .1 .1 .1 .0) (made .make .ensures)
     (search needs) (search needs)
 
 pub plain-spec : {M : Type 1} → statement M

@@ -11,7 +11,7 @@ use Rattle.record.proofs.well_linked.Tie as tie
 returns : tie.Need-returns
 returns c =
     let loans = c .before .before .before .before .before .before .before .before .before .before .before .before .before .before in
-    let indices = loans .before .before .before .before in
+    let indices = loans .before .before .before .before .before in
     let values = indices .before .before .before .before in
     let owners = values .before .before .before .before in
     let keys = owners .before .before .before in

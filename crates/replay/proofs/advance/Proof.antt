@@ -72,7 +72,7 @@ module _ (c : tie.After-after) where
       → length o ≡ length (take (q .out - at .args .p .out) (drop (at .args .p .out) (at .args .outs .now)))
       → length o2 ≡ length (take (q .out2 - at .args .p .out2) (drop (at .args .p .out2) (at .args .outs2 .now)))
       → Told linked
-      (callOf (h .op) (h .k) (h .v) (take (q .out - at .args .p .out) (drop (at .args .p .out) (at .args .outs .now))) (take (q .out2 - at .args .p .out2) (drop (at .args .p .out2) (at .args .outs2 .now)))
+      (callOf (h .op) (h .poster) (h .k) (h .v) (take (q .out - at .args .p .out) (drop (at .args .p .out) (at .args .outs .now))) (take (q .out2 - at .args .p .out2) (drop (at .args .p .out2) (at .args .outs2 .now)))
       (take (q .mark - at .args .p .mark) (drop (at .args .p .mark) (at .args .marks .now))))
       (given at) m′ o o2 k
       → Advanced (at .args .calls .now) (at .args .marks .now) (at .args .p) (at .args .outs .now) (at .args .outs2 .now) (at .args .answers .now) (given at) q

@@ -19,8 +19,11 @@ either-requires-4 c κs = search needs
 either-requires-5 : tie.Need-either-requires-5
 either-requires-5 c κs = search needs
 
+either-requires-6 : tie.Need-either-requires-6
+either-requires-6 c κs = search needs
+
 returns : tie.Need-returns
-returns c = rw (c .either5 .ensures, c .before .either4 .ensures, c .before .before .either3 .ensures, c .before .before .before .either2 .ensures, c .before .before .before .before .either .ensures) refl
+returns c = rw (c .either6 .ensures, c .before .either5 .ensures, c .before .before .either4 .ensures, c .before .before .before .either3 .ensures, c .before .before .before .before .either2 .ensures, c .before .before .before .before .before .either .ensures) refl
 
 pub lends-spec : {M : Type 1} → statement M
 lends-spec =
@@ -31,4 +34,5 @@ lends-spec =
     either-requires-3
     either-requires-4
     either-requires-5
+    either-requires-6
     returns)

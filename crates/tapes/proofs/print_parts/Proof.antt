@@ -139,7 +139,7 @@ returns c =
     let e6 = six .rest5 .ensures ∙ ap restOf e5 in
     run-as
     (limits-of (first .read-numbers .ensures) (ap numbersOf (first .before .before .part .ensures)))
-    (front-of 49152 (second .read-numbers2 .ensures) refl (ap numbersOf (second .before .before .part2 .ensures ∙ ap partOf e2)))
+    (front-of 57344 (second .read-numbers2 .ensures) refl (ap numbersOf (second .before .before .part2 .ensures ∙ ap partOf e2)))
     (front-of 8192 (third .read-numbers3 .ensures) refl (ap numbersOf (third .before .before .part3 .ensures ∙ ap partOf e3)))
     (front-of 8192 (fourth .read-numbers4 .ensures) refl (ap numbersOf (fourth .before .before .part4 .ensures ∙ ap partOf e4)))
     (front-of 8192 (fifth .read-marks .ensures) refl (ap marksOf (fifth .before .before .part5 .ensures ∙ ap partOf e5)))

@@ -66,7 +66,7 @@ returns-3 : tie.Need-returns-3
 returns-3 c =
     let s = c .before .before .before .before .before .before .before .before .before .before .before .before .before .before .before .before .before .before .before .before .before .before .before .before in
     c .before .before .before .before .read-from-16 .ensures (given s) (s .pre) (whole s)
-    (s .args .v) (s .args .marks .now)
+    (s .args .poster) (s .args .v) (s .args .marks .now)
 
 pub om-call-spec : {M : Type 1} → statement M
 om-call-spec =

@@ -1,14 +1,13 @@
 -- `well_linked::well_linked` meets its contract: each part is decided, and together they are the whole. Assumes nothing.
-use Prim.Native.Nat.{_≤_}
 use native.Mathlib.Omega.{arith}
 use borrow.Author.Needs.{needs}
 use borrow.Author.Tests.{not-true, not-false}
-use Rattle.steps.specs.State.{maxMembers, maxRounds, maxTaken}
+use Rattle.steps.specs.State.{maxMembers, maxRounds}
 use Rattle.index.proofs.Agree.{decides-map, if-true, if-false}
 use Rattle.links.specs.Places.{Linked, order}
 use Rattle.multimap.specs.Arrays.{Arrays, Sized, arrays}
 use Rattle.multimap.specs.Map.{roundsOf, membersOf}
-use Rattle.multimap.specs.WellLinked.{Limited}
+use Rattle.multimap.specs.WellLinked.{Counted, Limited}
 use Rattle.well_linked.proofs.Linking.{marked-so}
 use Rattle.well_linked.proofs.Whole.{Within, limited-so, rounds-within, members-within, Records, inside, listed, recorded, well-linked-so}
 use Rattle.well_linked.proofs.well_linked.Statement.{statement}
@@ -20,17 +19,20 @@ given s =
     (s .args .key-index .now) (s .args .next-value .now) (s .args .previous-value .now) (s .args .next-index .now)
     (s .args .previous-index .now) (s .args .index .now) (s .args .members .now) (s .args .rounds .now) (s .args .taken .now)
 
--- the arrays' lengths, as they are lent
+-- the arrays' lengths, as they are lent, and the counters' bound
 module _ (c : tie.After-list-linked2) where
   abbrev shown : tie.After-shown
   shown = c .before .before .before .before .before .before .before .before .before .before .before
 
+  abbrev read : tie.After-shared-slice-known
+  read = shown .before .before .before .before .before .before .before .before .before .before
+
   abbrev start : tie.Start
-  start = shown .before .before .before .before .before .before .before .before .before .before .before
+  start = read .before .before
 
   sized : Sized (given start)
   sized =
-      let rounds = shown .before .before in
+      let rounds = shown .before in
       let members = rounds .before in
       let index = members .before in
       let previous-index = index .before in
@@ -55,10 +57,11 @@ module _ (c : tie.After-list-linked2) where
         index = index .shown-arg7 .given .0;
         members = members .shown-arg8 .given .0;
         rounds = rounds .shown-arg9 .given .0;
+        taken = read .before .counters .given .0;
       }
 
-  small : given start .taken ≤ maxTaken
-  small = omega (arith, shown .before .row-known .given)
+  counted : Counted (given start)
+  counted p = omega (arith, read .shared-slice-known .given p)
 
 -- both limits are kept to, and both lists are linked
 module _ (c : tie.Else4) where
@@ -83,6 +86,9 @@ module _ (c : tie.Else4) where
 
   members-linked : Linked (membersOf m)
   members-linked = if-true (c .before .list-linked2 .result) (not-false _ (c .if4 .left)) (c .before .list-linked2 .ensures)
+
+shared-slice-read-counter : tie.Need-shared-slice-read-counter
+shared-slice-read-counter c = omega (arith, c .before .counters .given .0)
 
 shown-requires : tie.Need-shown-requires
 shown-requires c κs = search needs
@@ -167,13 +173,14 @@ returns-6 c =
     let u = marked-so (membersOf (m both)) 256 (marked .mark .result) (marked .mark .ensures) g in
     let chains = test .before .chains-linked in
     let w = if-true (chains .result) {P = Records (m both) _} (not-false _ (test .if5 .left)) (chains .ensures) in
-    decides-map (c .agrees .result) (well-linked-so (m both) r g _ u w (sized (both .before)) (small (both .before)) (limited both)) (λ w. w .index)
+    decides-map (c .agrees .result) (well-linked-so (m both) r g _ u w (sized (both .before)) (counted (both .before)) (limited both)) (λ w. w .index)
     (c .agrees .ensures (order (membersOf (m both))) (listed (m both) r g _ u))
 
 pub well-linked-spec : {M : Type 1} → statement M
 well-linked-spec =
     tie.close
     (tie.spec
+    shared-slice-read-counter
     shown-requires
     is-limited-requires
     returns
