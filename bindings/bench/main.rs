@@ -11,6 +11,9 @@ use std::time::Instant;
 
 const RUNS: usize = 301;
 
+// The bytes of a map.
+const RECORD: usize = std::mem::size_of::<prelgammo::Record>();
+
 // Nanoseconds for one of so many calls that the work makes.
 fn time(calls: usize, work: impl FnOnce()) -> f64 {
     let start = Instant::now();
@@ -37,7 +40,7 @@ fn least(mut run: impl FnMut() -> f64) -> f64 {
 }
 
 fn time_copy() -> f64 {
-    let (from, mut to) = (vec![1u8; 24_096], vec![0u8; 24_096]);
+    let (from, mut to) = (vec![1u8; RECORD], vec![0u8; RECORD]);
     least(|| time(1, || black_box(&mut to).copy_from_slice(black_box(&from))))
 }
 
@@ -61,7 +64,7 @@ fn time_image() {
 
 fn main() {
     println!(
-        "Nanoseconds, least times of {RUNS} runs. A plain copy of the record (24,096 bytes): {:.0} ns.\n",
+        "Nanoseconds, least times of {RUNS} runs. A plain copy of the record ({RECORD} bytes): {:.0} ns.\n",
         time_copy()
     );
     println!("| Call | Package | Crate | Package / crate |");

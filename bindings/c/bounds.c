@@ -58,11 +58,11 @@ static uint64_t read_into(uint64_t rounds_limit, const uint8_t *image, size_t le
 static void fill_and_pack(void) {
     static uint8_t image[OM_IMAGE];
     for (uint64_t i = 0; i < OM_ROUNDS + 2; i++)
-        om_map_append(&room.map, i % OM_MEMBERS, UINT64_MAX - i);
+        om_map_append(&room.map, i % OM_POSTERS, i % OM_MEMBERS, UINT64_MAX - i);
     expect(om_map_values_len(&room.map).answer[1] == OM_ROUNDS, "the map is not full");
-    om_map_append(&room.map, OM_MEMBERS, 0);
+    om_map_append(&room.map, 0, OM_MEMBERS, 0);
     om_map_pop_front(&room.map);
-    om_map_insert(&room.map, 7, 1);
+    om_map_insert(&room.map, OM_POSTERS - 1, 7, 1);
     om_map_pack_to(&room.map, OM_MEMBERS, OM_ROUNDS);
     expect_untouched("a call wrote beside a full map");
     om_said written = om_map_write_image(&room.map, image, OM_IMAGE);

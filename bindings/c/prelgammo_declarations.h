@@ -26,11 +26,11 @@ struct om_map {
     /* How many places are in use, how many have ever been, the first freed one, from which the others follow by next, and the map's limit. */
     uint16_t members[4];
     uint16_t rounds[4];
-    /* Rounds ever taken in. */
-    uint32_t taken;
+    /* Rounds ever taken in, of each poster. */
+    uint32_t taken[16];
 };
 
-static_assert(sizeof(om_map) == 24096, "size of the map");
+static_assert(sizeof(om_map) == 24160, "size of the map");
 static_assert(offsetof(om_map, keys) == 0, "keys");
 static_assert(offsetof(om_map, length) == 2048, "length");
 static_assert(offsetof(om_map, next_key) == 2560, "next_key");
@@ -47,10 +47,10 @@ static_assert(offsetof(om_map, rounds) == 24084, "rounds");
 static_assert(offsetof(om_map, taken) == 24092, "taken");
 
 /* Defined by an archive of this layout and these signatures alone: another one does not link. */
-extern const unsigned char prelgammo_layout_278b7ecbf7d83fc5;
+extern const unsigned char prelgammo_layout_16d0a76d6150a04c;
 
 static inline void om_same_layout(void) {
-    (void)*(const volatile unsigned char *)&prelgammo_layout_278b7ecbf7d83fc5;
+    (void)*(const volatile unsigned char *)&prelgammo_layout_16d0a76d6150a04c;
 }
 
 /* The functions of the library. They take the arrays of a map one by one. */
@@ -59,11 +59,11 @@ static inline void om_same_layout(void) {
         CONST uint16_t previous_key[257], CONST uint64_t values[1024], CONST uint16_t key_index[1024],                \
         CONST uint16_t next_value[1025], CONST uint16_t previous_value[1025], CONST uint16_t next_index[1280],        \
         CONST uint16_t previous_index[1280], CONST uint16_t index[512], CONST uint16_t members[4],                    \
-        CONST uint16_t rounds[4], CONST uint32_t *taken
+        CONST uint16_t rounds[4], CONST uint32_t taken[16]
 
-void om_append(OM_ARRAYS(), uint64_t k, uint64_t v, uint64_t answer[4]);
-void om_call(OM_ARRAYS(), uint64_t op, uint64_t k, uint64_t v, uint64_t *out, size_t out_len, uint64_t *out2,
-             size_t out2_len, const uint8_t *marks, size_t marks_len, uint64_t answer[4]);
+void om_append(OM_ARRAYS(), uint64_t poster, uint64_t k, uint64_t v, uint64_t answer[4]);
+void om_call(OM_ARRAYS(), uint64_t op, uint64_t poster, uint64_t k, uint64_t v, uint64_t *out, size_t out_len,
+             uint64_t *out2, size_t out2_len, const uint8_t *marks, size_t marks_len, uint64_t answer[4]);
 void om_clear(OM_ARRAYS(), uint64_t answer[4]);
 void om_contains_key(const uint64_t keys[256], const uint16_t index[512], uint64_t k, uint64_t answer[4]);
 void om_entry(const uint64_t keys[256], const uint16_t lengths[256], const uint16_t index[512], uint64_t k,
@@ -75,8 +75,9 @@ void om_get(const uint64_t keys[256], const uint64_t values[1024], const uint16_
 void om_get_all(const uint64_t keys[256], const uint16_t lengths[256], const uint64_t values[1024],
                 const uint16_t next_index[1280], const uint16_t index[512], uint64_t k, uint64_t *out, size_t out_len,
                 uint64_t answer[4]);
-void om_insert(OM_ARRAYS(), uint64_t k, uint64_t v, uint64_t answer[4]);
-void om_insert_all(OM_ARRAYS(), uint64_t k, uint64_t v, uint64_t *out, size_t out_len, uint64_t answer[4]);
+void om_insert(OM_ARRAYS(), uint64_t poster, uint64_t k, uint64_t v, uint64_t answer[4]);
+void om_insert_all(OM_ARRAYS(), uint64_t poster, uint64_t k, uint64_t v, uint64_t *out, size_t out_len,
+                   uint64_t answer[4]);
 void om_iter(const uint64_t keys[256], const uint64_t values[1024], const uint16_t key_index[1024],
              const uint16_t next_value[1025], const uint16_t rounds[4], uint64_t *out, size_t out_len, uint64_t *out2,
              size_t out2_len, uint64_t answer[4]);
@@ -84,8 +85,8 @@ void om_keys(const uint64_t keys[256], const uint16_t next_key[257], const uint1
              size_t out_len, uint64_t answer[4]);
 void om_keys_len(const uint16_t members[4], uint64_t answer[4]);
 void om_new(OM_ARRAYS(), uint64_t members_limit, uint64_t rounds_limit, uint64_t answer[4]);
-void om_occupied_append(OM_ARRAYS(), uint64_t k, uint64_t v, uint64_t answer[4]);
-void om_occupied_insert(OM_ARRAYS(), uint64_t k, uint64_t v, uint64_t answer[4]);
+void om_occupied_append(OM_ARRAYS(), uint64_t poster, uint64_t k, uint64_t v, uint64_t answer[4]);
+void om_occupied_insert(OM_ARRAYS(), uint64_t poster, uint64_t k, uint64_t v, uint64_t answer[4]);
 void om_occupied_remove_entry(OM_ARRAYS(), uint64_t k, uint64_t answer[4]);
 void om_pack_to(OM_ARRAYS(), uint64_t keys_minimum, uint64_t values_minimum, uint64_t answer[4]);
 void om_pop_back(OM_ARRAYS(), uint64_t answer[4]);
@@ -95,10 +96,10 @@ void om_read_image(OM_ARRAYS(), uint64_t members_limit, uint64_t rounds_limit, c
 void om_remove(OM_ARRAYS(), uint64_t k, uint64_t answer[4]);
 void om_remove_all(OM_ARRAYS(), uint64_t k, uint64_t *out, size_t out_len, uint64_t answer[4]);
 void om_retain(OM_ARRAYS(), const uint8_t *marks, size_t marks_len, uint64_t answer[4]);
-void om_taken(const uint32_t *taken, uint64_t answer[4]);
-om_map om_turn(om_map m, uint64_t op, uint64_t k, uint64_t v, uint64_t *out, size_t out_len, uint64_t *out2,
-               size_t out2_len, const uint8_t *marks, size_t marks_len, uint64_t answer[4]);
-void om_vacant_insert(OM_ARRAYS(), uint64_t k, uint64_t v, uint64_t answer[4]);
+void om_taken(const uint32_t taken[16], uint64_t out[16], uint64_t answer[4]);
+om_map om_turn(om_map m, uint64_t op, uint64_t poster, uint64_t k, uint64_t v, uint64_t *out, size_t out_len,
+               uint64_t *out2, size_t out2_len, const uint8_t *marks, size_t marks_len, uint64_t answer[4]);
+void om_vacant_insert(OM_ARRAYS(), uint64_t poster, uint64_t k, uint64_t v, uint64_t answer[4]);
 void om_values_len(const uint16_t rounds[4], uint64_t answer[4]);
 uint64_t om_well_linked(OM_ARRAYS(const));
 void om_write_image(const uint64_t keys[256], const uint64_t values[1024], const uint16_t key_index[1024],
@@ -113,18 +114,19 @@ uint64_t replay(uint64_t members_limit, uint64_t rounds_limit, const uint64_t *c
 /* The arrays of the map m, in order. */
 #define OM_LENT                                                                                                       \
     m->keys, m->length, m->next_key, m->previous_key, m->values, m->key_index, m->next_value, m->previous_value,      \
-        m->next_index, m->previous_index, m->index, m->members, m->rounds, &m->taken
+        m->next_index, m->previous_index, m->index, m->members, m->rounds, m->taken
 
-static inline om_said om_map_append(om_map *m, uint64_t k, uint64_t v) {
+static inline om_said om_map_append(om_map *m, uint64_t poster, uint64_t k, uint64_t v) {
     om_said said;
-    om_append(OM_LENT, k, v, said.answer);
+    om_append(OM_LENT, poster, k, v, said.answer);
     return said;
 }
 
-static inline om_said om_map_call(om_map *m, uint64_t op, uint64_t k, uint64_t v, uint64_t *out, size_t out_len,
-                                  uint64_t *out2, size_t out2_len, const uint8_t *marks, size_t marks_len) {
+static inline om_said om_map_call(om_map *m, uint64_t op, uint64_t poster, uint64_t k, uint64_t v, uint64_t *out,
+                                  size_t out_len, uint64_t *out2, size_t out2_len, const uint8_t *marks,
+                                  size_t marks_len) {
     om_said said;
-    om_call(OM_LENT, op, k, v, out, out_len, out2, out2_len, marks, marks_len, said.answer);
+    om_call(OM_LENT, op, poster, k, v, out, out_len, out2, out2_len, marks, marks_len, said.answer);
     return said;
 }
 
@@ -164,15 +166,16 @@ static inline om_said om_map_get_all(const om_map *m, uint64_t k, uint64_t *out,
     return said;
 }
 
-static inline om_said om_map_insert(om_map *m, uint64_t k, uint64_t v) {
+static inline om_said om_map_insert(om_map *m, uint64_t poster, uint64_t k, uint64_t v) {
     om_said said;
-    om_insert(OM_LENT, k, v, said.answer);
+    om_insert(OM_LENT, poster, k, v, said.answer);
     return said;
 }
 
-static inline om_said om_map_insert_all(om_map *m, uint64_t k, uint64_t v, uint64_t *out, size_t out_len) {
+static inline om_said om_map_insert_all(om_map *m, uint64_t poster, uint64_t k, uint64_t v, uint64_t *out,
+                                        size_t out_len) {
     om_said said;
-    om_insert_all(OM_LENT, k, v, out, out_len, said.answer);
+    om_insert_all(OM_LENT, poster, k, v, out, out_len, said.answer);
     return said;
 }
 
@@ -201,15 +204,15 @@ static inline om_said om_map_new(om_map *m, uint64_t members_limit, uint64_t rou
     return said;
 }
 
-static inline om_said om_map_occupied_append(om_map *m, uint64_t k, uint64_t v) {
+static inline om_said om_map_occupied_append(om_map *m, uint64_t poster, uint64_t k, uint64_t v) {
     om_said said;
-    om_occupied_append(OM_LENT, k, v, said.answer);
+    om_occupied_append(OM_LENT, poster, k, v, said.answer);
     return said;
 }
 
-static inline om_said om_map_occupied_insert(om_map *m, uint64_t k, uint64_t v) {
+static inline om_said om_map_occupied_insert(om_map *m, uint64_t poster, uint64_t k, uint64_t v) {
     om_said said;
-    om_occupied_insert(OM_LENT, k, v, said.answer);
+    om_occupied_insert(OM_LENT, poster, k, v, said.answer);
     return said;
 }
 
@@ -263,15 +266,15 @@ static inline om_said om_map_retain(om_map *m, const uint8_t *marks, size_t mark
     return said;
 }
 
-static inline om_said om_map_taken(const om_map *m) {
+static inline om_said om_map_taken(const om_map *m, uint64_t out[16]) {
     om_said said;
-    om_taken(&m->taken, said.answer);
+    om_taken(m->taken, out, said.answer);
     return said;
 }
 
-static inline om_said om_map_vacant_insert(om_map *m, uint64_t k, uint64_t v) {
+static inline om_said om_map_vacant_insert(om_map *m, uint64_t poster, uint64_t k, uint64_t v) {
     om_said said;
-    om_vacant_insert(OM_LENT, k, v, said.answer);
+    om_vacant_insert(OM_LENT, poster, k, v, said.answer);
     return said;
 }
 

@@ -18,15 +18,15 @@ static size_t image_len;
 static void nothing(void) {}
 static void new(void) { om_map_new(&map, OM_MEMBERS, OM_ROUNDS); }
 static void well_linked(void) { om_map_well_linked(&map); }
-static void append(void) { om_map_append(&map, 7, 1); }
-static void insert(void) { om_map_insert(&map, 7, 1); }
-static void insert_all(void) { om_map_insert_all(&map, 7, 1, out, OM_ROUNDS); }
+static void append(void) { om_map_append(&map, 0, 7, 1); }
+static void insert(void) { om_map_insert(&map, 0, 7, 1); }
+static void insert_all(void) { om_map_insert_all(&map, 0, 7, 1, out, OM_ROUNDS); }
 static void remove_(void) { om_map_remove(&map, 7); }
 static void remove_all(void) { om_map_remove_all(&map, 7, out, OM_ROUNDS); }
-static void occupied_append(void) { om_map_occupied_append(&map, 8, 1); }
-static void occupied_insert(void) { om_map_occupied_insert(&map, 8, 1); }
+static void occupied_append(void) { om_map_occupied_append(&map, 0, 8, 1); }
+static void occupied_insert(void) { om_map_occupied_insert(&map, 0, 8, 1); }
 static void occupied_remove_entry(void) { om_map_occupied_remove_entry(&map, 8); }
-static void vacant_insert(void) { om_map_vacant_insert(&map, OM_MEMBERS, 1); }
+static void vacant_insert(void) { om_map_vacant_insert(&map, 0, OM_MEMBERS, 1); }
 static void pop_front(void) { om_map_pop_front(&map); }
 static void pop_back(void) { om_map_pop_back(&map); }
 static void retain(void) { om_map_retain(&map, marks, om_map_values_len(&map).answer[1]); }
@@ -41,24 +41,26 @@ static void keys(void) { om_map_keys(&map, out, OM_ROUNDS); }
 static void keys_len(void) { om_map_keys_len(&map); }
 static void values_len(void) { om_map_values_len(&map); }
 static void iter(void) { om_map_iter(&map, out, OM_ROUNDS, out2, OM_ROUNDS); }
-static void taken(void) { om_map_taken(&map); }
-static void call(void) { om_map_call(&map, 13, OM_MEMBERS, OM_ROUNDS, out, OM_ROUNDS, out2, OM_ROUNDS, marks, OM_ROUNDS); }
+static void taken(void) { om_map_taken(&map, out); }
+static void call(void) {
+    om_map_call(&map, 13, 0, OM_MEMBERS, OM_ROUNDS, out, OM_ROUNDS, out2, OM_ROUNDS, marks, OM_ROUNDS);
+}
 static void write_image(void) { om_map_write_image(&map, image, OM_IMAGE); }
 static void read_image(void) { om_map_read_image(&map, OM_MEMBERS, OM_ROUNDS, image, image_len); }
 static void turn(void) {
-    after = om_turn(map, 13, OM_MEMBERS, OM_ROUNDS, out, OM_ROUNDS, out2, OM_ROUNDS, marks, OM_ROUNDS, answer);
+    after = om_turn(map, 13, 0, OM_MEMBERS, OM_ROUNDS, out, OM_ROUNDS, out2, OM_ROUNDS, marks, OM_ROUNDS, answer);
 }
 static void play(void) {
-    static const uint64_t calls[] = {0, 7, 1, 0, 0, 0, 13, 256, 1024, 0, 0, 0};
+    static const uint64_t calls[] = {0, 0, 7, 1, 0, 0, 0, 13, 0, 256, 1024, 0, 0, 0};
     static uint64_t answers[8];
-    replay(OM_MEMBERS, OM_ROUNDS, calls, 12, out, 0, out2, 0, marks, 0, answers, 8);
+    replay(OM_MEMBERS, OM_ROUNDS, calls, 14, out, 0, out2, 0, marks, 0, answers, 8);
 }
 
 /* A map that is nearly full, and its image. */
 static void fill(void) {
     om_map_new(&map, OM_MEMBERS, OM_ROUNDS);
     for (uint64_t i = 0; i < OM_ROUNDS - 4; i++) {
-        om_map_append(&map, i % (OM_MEMBERS - 1), i);
+        om_map_append(&map, 0, i % (OM_MEMBERS - 1), i);
         marks[i] = i % 3 > 0;
     }
     image_len = om_map_write_image(&map, image, OM_IMAGE).answer[1];

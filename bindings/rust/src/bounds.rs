@@ -46,7 +46,7 @@ fn the_empty_map_is_every_field_and_no_more() {
     let kept: Vec<usize> = (0..bytes.len()).filter(|&at| bytes[at] == FILL).collect();
     // what C leaves between two fields, and after the last one where it leaves any
     let gap = offset_of!(Record, previous_key) + size_of::<[u16; 257]>()..offset_of!(Record, values);
-    let end = offset_of!(Record, taken) + size_of::<u32>()..size_of::<Record>();
+    let end = offset_of!(Record, taken) + size_of::<[u32; 16]>()..size_of::<Record>();
     assert_eq!(kept, gap.chain(end).collect::<Vec<_>>());
 }
 
@@ -72,12 +72,12 @@ fn calls_on_a_full_map_stay_within_it() {
     unsafe {
         told(|answer| declarations::new(record, 256, 1024, answer));
         for at in 0..1026 {
-            told(|answer| declarations::append(record, at % 256, u64::MAX - at, answer));
+            told(|answer| declarations::append(record, at % 16, at % 256, u64::MAX - at, answer));
         }
         assert_eq!(told(|answer| declarations::values_len(record, answer))[1], 1024);
-        told(|answer| declarations::append(record, 256, 0, answer));
+        told(|answer| declarations::append(record, 0, 256, 0, answer));
         told(|answer| declarations::pop_front(record, answer));
-        told(|answer| declarations::insert(record, 7, 1, answer));
+        told(|answer| declarations::insert(record, 15, 7, 1, answer));
         told(|answer| declarations::pack_to(record, 256, 1024, answer));
         assert_eq!(declarations::well_linked(record), 1);
     }

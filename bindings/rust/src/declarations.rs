@@ -5,7 +5,7 @@
 
 use core::ptr::{addr_of, addr_of_mut};
 
-/// The map as C sees it: one record of arrays, 24,096 bytes. The file `crates/multimap/src/lib.rt` says what each field
+/// The map as C sees it: one record of arrays, 24,160 bytes. The file `crates/multimap/src/lib.rt` says what each field
 /// has.
 #[allow(missing_docs)]
 #[repr(C)]
@@ -38,20 +38,20 @@ pub struct Record {
     pub values_fresh: u16,
     pub values_free: u16,
     pub values_limit: u16,
-    // Rounds ever taken in.
-    pub taken: u32,
+    // Rounds ever taken in, of each poster.
+    pub taken: [u32; 16],
 }
 
-const _: () = assert!(core::mem::size_of::<Record>() == 24_096);
+const _: () = assert!(core::mem::size_of::<Record>() == 24_160);
 
 extern "C" {
     // Defined by an archive of this layout and these signatures alone.
-    static prelgammo_layout_278b7ecbf7d83fc5: u8;
+    static prelgammo_layout_16d0a76d6150a04c: u8;
 }
 
 // Has the program refer to the layout's symbol.
 fn same_layout() {
-    unsafe { addr_of!(prelgammo_layout_278b7ecbf7d83fc5).read_volatile() };
+    unsafe { addr_of!(prelgammo_layout_16d0a76d6150a04c).read_volatile() };
 }
 
 // Declares functions that are lent all of the arrays and then take these arguments, and beside each the one of a record.
@@ -73,7 +73,7 @@ macro_rules! lent_all {
                 index: *$access [u16; 512],
                 members: *$access [u16; 4],
                 rounds: *$access [u16; 4],
-                taken: *$access u32,
+                taken: *$access [u32; 16],
                 $($argument: $type),*
             ) $(-> $given)?;)*
         }
@@ -116,9 +116,10 @@ lent_all! { const addr_of { same_layout() }
 }
 
 lent_all! { mut addr_of_mut {}
-    append om_append(k: u64, v: u64, answer: *mut [u64; 4]);
+    append om_append(poster: u64, k: u64, v: u64, answer: *mut [u64; 4]);
     call om_call(
         op: u64,
+        poster: u64,
         k: u64,
         v: u64,
         out: *mut u64,
@@ -130,10 +131,10 @@ lent_all! { mut addr_of_mut {}
         answer: *mut [u64; 4]
     );
     clear om_clear(answer: *mut [u64; 4]);
-    insert om_insert(k: u64, v: u64, answer: *mut [u64; 4]);
-    insert_all om_insert_all(k: u64, v: u64, out: *mut u64, out_len: usize, answer: *mut [u64; 4]);
-    occupied_append om_occupied_append(k: u64, v: u64, answer: *mut [u64; 4]);
-    occupied_insert om_occupied_insert(k: u64, v: u64, answer: *mut [u64; 4]);
+    insert om_insert(poster: u64, k: u64, v: u64, answer: *mut [u64; 4]);
+    insert_all om_insert_all(poster: u64, k: u64, v: u64, out: *mut u64, out_len: usize, answer: *mut [u64; 4]);
+    occupied_append om_occupied_append(poster: u64, k: u64, v: u64, answer: *mut [u64; 4]);
+    occupied_insert om_occupied_insert(poster: u64, k: u64, v: u64, answer: *mut [u64; 4]);
     occupied_remove_entry om_occupied_remove_entry(k: u64, answer: *mut [u64; 4]);
     pack_to om_pack_to(keys_minimum: u64, values_minimum: u64, answer: *mut [u64; 4]);
     pop_back om_pop_back(answer: *mut [u64; 4]);
@@ -141,7 +142,7 @@ lent_all! { mut addr_of_mut {}
     remove om_remove(k: u64, answer: *mut [u64; 4]);
     remove_all om_remove_all(k: u64, out: *mut u64, out_len: usize, answer: *mut [u64; 4]);
     retain om_retain(marks: *const u8, marks_len: usize, answer: *mut [u64; 4]);
-    vacant_insert om_vacant_insert(k: u64, v: u64, answer: *mut [u64; 4]);
+    vacant_insert om_vacant_insert(poster: u64, k: u64, v: u64, answer: *mut [u64; 4]);
 }
 
 extern "C" {
@@ -200,12 +201,13 @@ extern "C" {
         answer: *mut [u64; 4],
     );
     fn om_keys_len(members: *const [u16; 4], answer: *mut [u64; 4]);
-    fn om_taken(taken: *const u32, answer: *mut [u64; 4]);
+    fn om_taken(taken: *const [u32; 16], out: *mut [u64; 16], answer: *mut [u64; 4]);
     // Gives a record back, for which the caller passes a pointer first (System V, amd64).
     pub fn om_turn(
         given: *mut Record,
         m: Record,
         op: u64,
+        poster: u64,
         k: u64,
         v: u64,
         out: *mut u64,
@@ -318,8 +320,8 @@ pub unsafe fn keys_len(record: *const Record, answer: *mut [u64; 4]) {
     om_keys_len(addr_of!((*record).keys_len).cast::<[u16; 4]>(), answer)
 }
 
-pub unsafe fn taken(record: *const Record, answer: *mut [u64; 4]) {
-    om_taken(addr_of!((*record).taken), answer)
+pub unsafe fn taken(record: *const Record, out: *mut [u64; 16], answer: *mut [u64; 4]) {
+    om_taken(addr_of!((*record).taken), out, answer)
 }
 
 pub unsafe fn values_len(record: *const Record, answer: *mut [u64; 4]) {

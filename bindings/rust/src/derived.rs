@@ -138,14 +138,11 @@ impl ListOrderedMultimap {
     /// map.try_extend((11..13).map(|value| (7, value)))?;
     /// assert!(map.iter().eq([(7, 10), (9, 20), (7, 11), (7, 12)]));
     /// assert_eq!(map.try_extend([(9, 21); 1021]), Err(Refused::Full));
-    /// assert_eq!((map.values_len(), map.taken()), (4, 4));
+    /// assert_eq!((map.values_len(), map.taken()[0]), (4, 4));
     /// # Ok::<(), prelgammo::Refused>(())
     /// ```
     pub fn try_extend(&mut self, pairs: impl IntoIterator<Item = (u64, u64)>) -> Result<(), Refused> {
-        let mut longer = self.clone();
-        longer.append_each(pairs)?;
-        *self = longer;
-        Ok(())
+        self.posting_as(0).try_extend(pairs)
     }
 
     /// All values, in the order in which they were added.
@@ -161,11 +158,6 @@ impl ListOrderedMultimap {
     #[must_use]
     pub fn values(&self) -> Values {
         self.map.iter().1.into_iter()
-    }
-
-    // Appends the pairs up to the first that is refused.
-    pub(crate) fn append_each(&mut self, pairs: impl IntoIterator<Item = (u64, u64)>) -> Result<(), Refused> {
-        pairs.into_iter().try_for_each(|(key, value)| self.append(key, value).map(|_| ()))
     }
 
     // The pair in this place of the list, or none at the list's end.

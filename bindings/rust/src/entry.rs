@@ -1,4 +1,4 @@
-use crate::{EntryValues, EntryValuesDrain, ListOrderedMultimap, Refused};
+use crate::{EntryValues, EntryValuesDrain, ListOrderedMultimap, PostingAs, Refused};
 use std::fmt;
 
 /// A key's place in the map, from [`ListOrderedMultimap::entry`].
@@ -24,7 +24,8 @@ pub enum Entry<'map> {
     Vacant(VacantEntry<'map>),
 }
 
-const OCCUPIED: &str = "an occupied entry has a value";
+pub(crate) const OCCUPIED: &str = "an occupied entry has a value";
+const MAKES_ROOM: &str = "a key's own values make room, and 0 is a poster";
 
 /// A key that has values.
 pub struct OccupiedEntry<'map> {
@@ -32,7 +33,7 @@ pub struct OccupiedEntry<'map> {
     pub(crate) key: u64,
 }
 
-impl OccupiedEntry<'_> {
+impl<'map> OccupiedEntry<'map> {
     /// Adds a value at the back. Refused by 1.
     ///
     /// ```
@@ -46,9 +47,7 @@ impl OccupiedEntry<'_> {
     /// # Ok::<(), prelgammo::Refused>(())
     /// ```
     pub fn append(&mut self, value: u64) -> Result<(), Refused> {
-        let answer = self.map.map.occupied_append(self.key, value).accepted()?;
-        answer.done();
-        Ok(())
+        self.posting_as(0).append(value)
     }
 
     /// The first of the key's values.
@@ -80,7 +79,7 @@ impl OccupiedEntry<'_> {
     /// # Ok::<(), prelgammo::Refused>(())
     /// ```
     pub fn insert(&mut self, value: u64) -> u64 {
-        self.map.map.occupied_insert(self.key, value).round().expect(OCCUPIED)
+        self.posting_as(0).insert(value).expect(MAKES_ROOM)
     }
 
     /// As [`insert`](OccupiedEntry::insert), but gives all of the old values.
@@ -96,7 +95,7 @@ impl OccupiedEntry<'_> {
     /// # Ok::<(), prelgammo::Refused>(())
     /// ```
     pub fn insert_all(&mut self, value: u64) -> EntryValuesDrain {
-        self.map.insert_all(self.key, value).expect("a key's own values make room")
+        self.posting_as(0).insert_all(value).expect(MAKES_ROOM)
     }
 
     /// The key's values, in order.
@@ -145,6 +144,23 @@ impl OccupiedEntry<'_> {
     #[must_use]
     pub fn len(&self) -> usize {
         self.map.entry_len(&self.key)
+    }
+
+    /// The entry with a poster, from 0 to 15, for whom the calls that follow add and count: [`PostingAs`]. With any other
+    /// number each of these is refused by 16.
+    ///
+    /// ```
+    /// use prelgammo::{Entry, ListOrderedMultimap};
+    ///
+    /// let mut map = ListOrderedMultimap::new();
+    /// map.append(7, 10)?;
+    /// let Entry::Occupied(mut entry) = map.entry(7) else { unreachable!() };
+    /// entry.posting_as(3).append(11)?;
+    /// assert_eq!(map.taken()[..4], [1, 0, 0, 1]);
+    /// # Ok::<(), prelgammo::Refused>(())
+    /// ```
+    pub fn posting_as(&mut self, poster: u64) -> PostingAs<&mut OccupiedEntry<'map>> {
+        PostingAs { to: self, poster }
     }
 
     /// Takes the key and all its values out, and gives the first of them.
@@ -238,7 +254,7 @@ impl<'map> VacantEntry<'map> {
     /// # Ok::<(), prelgammo::Refused>(())
     /// ```
     pub fn insert(self, value: u64) -> Result<(), Refused> {
-        self.insert_entry(value).map(|_| ())
+        self.posting_as(0).insert(value)
     }
 
     /// As [`insert`](VacantEntry::insert), and gives the entry that is now occupied.
@@ -255,8 +271,7 @@ impl<'map> VacantEntry<'map> {
     /// # Ok::<(), prelgammo::Refused>(())
     /// ```
     pub fn insert_entry(self, value: u64) -> Result<OccupiedEntry<'map>, Refused> {
-        self.map.map.vacant_insert(self.key, value).accepted()?.done();
-        Ok(OccupiedEntry { map: self.map, key: self.key })
+        self.posting_as(0).insert_entry(value)
     }
 
     /// The key, with which the entry is left.
@@ -285,6 +300,21 @@ impl<'map> VacantEntry<'map> {
     #[must_use]
     pub fn key(&self) -> &u64 {
         &self.key
+    }
+
+    /// The entry with a poster, as [`OccupiedEntry::posting_as`].
+    ///
+    /// ```
+    /// use prelgammo::{Entry, ListOrderedMultimap};
+    ///
+    /// let mut map = ListOrderedMultimap::new();
+    /// let Entry::Vacant(entry) = map.entry(7) else { unreachable!() };
+    /// entry.posting_as(3).insert(10)?;
+    /// assert_eq!(map.taken()[3], 1);
+    /// # Ok::<(), prelgammo::Refused>(())
+    /// ```
+    pub fn posting_as(self, poster: u64) -> PostingAs<VacantEntry<'map>> {
+        PostingAs { to: self, poster }
     }
 }
 

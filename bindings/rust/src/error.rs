@@ -3,8 +3,8 @@ use std::fmt;
 
 /// Why a call was refused. The map is then as it was before the call.
 ///
-/// These are all refusals of document 01 and, by a map's own limits, of request 1 in document 02, with their numbers. The
-/// methods of this package give 1, 2, 4, 5, 6 and 11 to 15. The others have no occasion here: slices are always long
+/// These are all refusals of document 01 and, for a map's own limits and for posters, of requests 1 and 2 in document 02,
+/// with their numbers. The methods of this package give 1, 2, 4, 5, 6 and 11 to 16. The others have no occasion here: slices are always long
 /// enough, `retain` makes its own marks, and an [`OccupiedEntry`](crate::OccupiedEntry) or a
 /// [`VacantEntry`](crate::VacantEntry) is only there where it fits.
 ///
@@ -53,10 +53,12 @@ pub enum Refused {
     WrongMembers = 14,
     /// 15: members' limit above 256, or rounds' above 1,024.
     LimitsAbove = 15,
+    /// 16: poster above 15.
+    NoPoster = 16,
 }
 
 // In the order of their numbers.
-const ALL: [(Refused, &str); 15] = [
+const ALL: [(Refused, &str); 16] = [
     (Refused::Full, "as many rounds held as the map's limit"),
     (Refused::Crowded, "as many members held as the map's limit"),
     (Refused::Short, "a slice to be written is shorter than the result"),
@@ -72,6 +74,7 @@ const ALL: [(Refused, &str); 15] = [
     (Refused::WrongLength, "length is not 8 + 16 × n"),
     (Refused::WrongMembers, "m is not the number of distinct members"),
     (Refused::LimitsAbove, "members' limit above 256, or rounds' above 1,024"),
+    (Refused::NoPoster, "poster above 15"),
 ];
 
 impl Refused {

@@ -3,7 +3,7 @@
 
 use crate::answer::Answer;
 pub use crate::declarations::Record;
-use crate::{declarations, Refused};
+use crate::{declarations, Refused, POSTERS};
 
 // The library's functions are lent the map's arrays one by one, and change them where they stand. Every function but
 // om_new, om_well_linked and om_read_image asks that the map is well-linked.
@@ -75,17 +75,17 @@ impl Map {
         &self.record
     }
 
-    pub fn append(&mut self, k: u64, v: u64) -> Answer {
-        change!(self, append(k, v))
+    pub fn append(&mut self, poster: u64, k: u64, v: u64) -> Answer {
+        change!(self, append(poster, k, v))
     }
 
-    pub fn insert(&mut self, k: u64, v: u64) -> Answer {
-        change!(self, insert(k, v))
+    pub fn insert(&mut self, poster: u64, k: u64, v: u64) -> Answer {
+        change!(self, insert(poster, k, v))
     }
 
-    pub fn insert_all(&mut self, k: u64, v: u64) -> Result<Vec<u64>, Refused> {
+    pub fn insert_all(&mut self, poster: u64, k: u64, v: u64) -> Result<Vec<u64>, Refused> {
         let mut out = self.room_for(k);
-        let answer = change!(self, insert_all(k, v, out.as_mut_ptr(), out.capacity())).accepted()?;
+        let answer = change!(self, insert_all(poster, k, v, out.as_mut_ptr(), out.capacity())).accepted()?;
         Ok(written(out, answer.count()))
     }
 
@@ -99,20 +99,20 @@ impl Map {
         written(out, answer.count())
     }
 
-    pub fn occupied_append(&mut self, k: u64, v: u64) -> Answer {
-        change!(self, occupied_append(k, v))
+    pub fn occupied_append(&mut self, poster: u64, k: u64, v: u64) -> Answer {
+        change!(self, occupied_append(poster, k, v))
     }
 
-    pub fn occupied_insert(&mut self, k: u64, v: u64) -> Answer {
-        change!(self, occupied_insert(k, v))
+    pub fn occupied_insert(&mut self, poster: u64, k: u64, v: u64) -> Answer {
+        change!(self, occupied_insert(poster, k, v))
     }
 
     pub fn occupied_remove_entry(&mut self, k: u64) -> Answer {
         change!(self, occupied_remove_entry(k))
     }
 
-    pub fn vacant_insert(&mut self, k: u64, v: u64) -> Answer {
-        change!(self, vacant_insert(k, v))
+    pub fn vacant_insert(&mut self, poster: u64, k: u64, v: u64) -> Answer {
+        change!(self, vacant_insert(poster, k, v))
     }
 
     pub fn pop_front(&mut self) -> Answer {
@@ -182,8 +182,11 @@ impl Map {
         (written(out, count), written(out2, count))
     }
 
-    pub fn taken(&self) -> Answer {
-        read!(self, taken())
+    pub fn taken(&self) -> [u64; POSTERS] {
+        let mut out = [0; POSTERS];
+        let answer = read!(self, taken(&mut out));
+        assert_eq!(answer.count(), POSTERS as u64);
+        out
     }
 
     pub fn write_image(&self) -> Vec<u8> {

@@ -33,7 +33,7 @@ impl ListOrderedMultimap {
     }
 
     /// The map of an image, with the highest limits: the same pairs, the keys in the order of their first values, and as
-    /// many values taken in as it has. Refused by 11 to 14.
+    /// many values [`taken`](ListOrderedMultimap::taken) in as it has, all of them from poster 0. Refused by 11 to 14.
     ///
     /// ```
     /// use prelgammo::{ListOrderedMultimap, Refused};

@@ -39,6 +39,23 @@
 //! map.append(7, 10);
 //! ```
 //!
+//! # Posters
+//!
+//! Every value is added by one of sixteen posters, 0 to 15, and the map counts the values of each
+//! ([`ListOrderedMultimap::taken`]). The crate's calls post as 0; `posting_as` before a call that adds, of a map or of an
+//! entry, names another ([`PostingAs`]).
+//!
+//! ```
+//! use prelgammo::ListOrderedMultimap;
+//!
+//! let mut map = ListOrderedMultimap::new();
+//! map.append(7, 10)?;
+//! map.posting_as(3).append(7, 11)?;
+//! map.posting_as(3).append(9, 20)?;
+//! assert_eq!(map.taken()[..4], [1, 0, 0, 2]);
+//! # Ok::<(), prelgammo::Refused>(())
+//! ```
+//!
 //! # Iterators
 //!
 //! The crate's iterators borrow the map. Here the library writes the values to a vector in one call, and the iterators
@@ -49,7 +66,7 @@
 //!
 //! # Cost
 //!
-//! The map is one record of 24,096 bytes in a box. The library is lent its arrays and changes them where they stand: no
+//! The map is one record of 24,160 bytes in a box. The library is lent its arrays and changes them where they stand: no
 //! call but [`ListOrderedMultimap::try_extend`] copies the map, and none allocates, save for the vectors that iterators
 //! own. Most calls take less time than the crate's (`docs/BENCHMARKS.md`). [`ListOrderedMultimap::new`] takes more, since
 //! it writes the whole record; that then never grows.
@@ -69,6 +86,8 @@
 mod answer;
 #[cfg(test)]
 mod bounds;
+#[cfg(test)]
+mod checks;
 mod declarations;
 mod derived;
 mod entry;
@@ -77,12 +96,14 @@ mod ffi;
 mod image;
 mod key;
 mod map;
+mod posting;
 
 pub use entry::{Entry, OccupiedEntry, VacantEntry};
 pub use error::Refused;
 pub use ffi::Record;
 pub use key::KeyWrapper;
 pub use map::{EntryValues, EntryValuesDrain, IntoIter, Iter, KeyValues, Keys, ListOrderedMultimap, Values};
+pub use posting::PostingAs;
 
 /// The types under the path that they have in the crate, so that a `use` line changes in its first word only.
 ///
@@ -104,3 +125,6 @@ pub const MEMBERS: usize = 256;
 
 /// The highest limit of values, likewise.
 pub const ROUNDS: usize = 1024;
+
+/// The number of posters: 0 up to one less.
+pub const POSTERS: usize = 16;

@@ -1,5 +1,5 @@
 use crate::ffi::{Map, Record};
-use crate::{Entry, KeyWrapper, OccupiedEntry, Refused, VacantEntry, MEMBERS, ROUNDS};
+use crate::{Entry, KeyWrapper, OccupiedEntry, PostingAs, Refused, VacantEntry, MEMBERS, POSTERS, ROUNDS};
 use std::{fmt, iter, vec};
 
 /// The values of a key, in order.
@@ -73,8 +73,7 @@ impl ListOrderedMultimap {
     /// assert_eq!(map.append(7, 11), Ok(true));
     /// ```
     pub fn append(&mut self, key: u64, value: u64) -> Result<bool, Refused> {
-        let answer = self.map.append(key, value).accepted()?;
-        Ok(answer.present())
+        self.posting_as(0).append(key, value)
     }
 
     /// Takes all pairs out. [`taken`](ListOrderedMultimap::taken) and the limits stay.
@@ -85,7 +84,7 @@ impl ListOrderedMultimap {
     /// let mut map = ListOrderedMultimap::new();
     /// map.append(7, 10)?;
     /// map.clear();
-    /// assert_eq!((map.values_len(), map.keys_len(), map.taken()), (0, 0, 1));
+    /// assert_eq!((map.values_len(), map.keys_len(), map.taken()[0]), (0, 0, 1));
     /// # Ok::<(), prelgammo::Refused>(())
     /// ```
     pub fn clear(&mut self) {
@@ -195,8 +194,7 @@ impl ListOrderedMultimap {
     /// # Ok::<(), prelgammo::Refused>(())
     /// ```
     pub fn insert(&mut self, key: u64, value: u64) -> Result<Option<u64>, Refused> {
-        let answer = self.map.insert(key, value).accepted()?;
-        Ok(answer.round())
+        self.posting_as(0).insert(key, value)
     }
 
     /// As [`insert`](ListOrderedMultimap::insert), but gives all of the old values.
@@ -214,8 +212,7 @@ impl ListOrderedMultimap {
     /// # Ok::<(), prelgammo::Refused>(())
     /// ```
     pub fn insert_all(&mut self, key: u64, value: u64) -> Result<EntryValuesDrain, Refused> {
-        let old = self.map.insert_all(key, value)?;
-        Ok(old.into_iter())
+        self.posting_as(0).insert_all(key, value)
     }
 
     /// All pairs, in the order in which they were added.
@@ -286,6 +283,22 @@ impl ListOrderedMultimap {
         let answer = self.map.pack_to(keys_minimum_capacity as u64, values_minimum_capacity as u64).accepted()?;
         answer.done();
         Ok(())
+    }
+
+    /// The map with a poster, from 0 to 15, for whom the calls that follow add and count: [`PostingAs`]. Any other
+    /// number is taken here too; each of its calls is then refused by 16.
+    ///
+    /// ```
+    /// use prelgammo::{ListOrderedMultimap, Refused};
+    ///
+    /// let mut map = ListOrderedMultimap::new();
+    /// map.posting_as(3).append(7, 10)?;
+    /// assert_eq!(map.posting_as(16).append(7, 11), Err(Refused::NoPoster));
+    /// assert_eq!((map.values_len(), map.taken()[3]), (1, 1));
+    /// # Ok::<(), prelgammo::Refused>(())
+    /// ```
+    pub fn posting_as(&mut self, poster: u64) -> PostingAs<&mut ListOrderedMultimap> {
+        PostingAs { to: self, poster }
     }
 
     /// Takes the last pair out.
@@ -383,21 +396,25 @@ impl ListOrderedMultimap {
         self.map.retain(marks).count() as usize
     }
 
-    /// The number of values ever added, up to 4,294,967,295. No call makes it smaller.
+    /// The number of values that each poster ever added, up to 4,294,967,295 of each. No call makes one smaller. The
+    /// crate's calls post as 0, [`posting_as`](ListOrderedMultimap::posting_as) names another poster. A map that was read
+    /// from an image has all its values from poster 0.
     ///
     /// ```
     /// use prelgammo::ListOrderedMultimap;
     ///
     /// let mut map = ListOrderedMultimap::new();
     /// map.append(7, 10)?;
+    /// map.posting_as(3).append(7, 11)?;
     /// map.remove(&7);
-    /// map.append(7, 11)?;
-    /// assert_eq!(map.taken(), 2);
+    /// map.posting_as(3).insert(7, 12)?;
+    /// assert_eq!(map.taken()[..5], [1, 0, 0, 2, 0]);
+    /// assert_eq!(map.taken().iter().sum::<u64>(), 3);
     /// # Ok::<(), prelgammo::Refused>(())
     /// ```
     #[must_use]
-    pub fn taken(&self) -> u64 {
-        self.map.taken().count()
+    pub fn taken(&self) -> [u64; POSTERS] {
+        self.map.taken()
     }
 
     /// The number of values.
@@ -429,7 +446,7 @@ impl ListOrderedMultimap {
     /// ```
     pub fn from_pairs(pairs: &[(u64, u64)]) -> Result<ListOrderedMultimap, Refused> {
         let mut map = ListOrderedMultimap::new();
-        map.append_each(pairs.iter().copied())?;
+        map.posting_as(0).append_each(pairs.iter().copied())?;
         Ok(map)
     }
 

@@ -73,7 +73,7 @@ fn try_extend_adds_all_or_nothing() {
     assert_eq!(map.try_extend((0..).map(|at| (at, at))), Err(Refused::Crowded));
     same(&map, &model);
     assert_eq!(map.try_extend(full.take(1022)), Ok(()));
-    assert_eq!((map.values_len(), map.taken(), map.back()), (1024, 1024, Some((1, 1021))));
+    assert_eq!((map.values_len(), map.taken()[0], map.back()), (1024, 1024, Some((1, 1021))));
 }
 
 #[test]

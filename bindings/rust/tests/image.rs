@@ -51,7 +51,7 @@ fn an_image_has_the_pairs_and_not_the_joining_order() {
     let back = ListOrderedMultimap::from_bytes(&map.to_bytes()).unwrap();
     assert_eq!(back, map);
     assert!(back.keys().eq([9, 7]));
-    assert_eq!((map.taken(), back.taken()), (4, 2));
+    assert_eq!((map.taken()[0], back.taken()[0]), (4, 2));
 }
 
 #[test]

@@ -46,7 +46,7 @@ fn a_full_map_takes_no_round() {
     assert_eq!(map.insert_all(2000, 0).unwrap_err(), Refused::Full);
     assert_eq!(occupied_append(&mut map, 5), Err(Refused::Full));
     assert_eq!(vacant_insert(&mut map, 2000), Err(Refused::Full));
-    assert_eq!((map.values_len(), map.keys_len(), map.taken()), (1024, 101, 1024));
+    assert_eq!((map.values_len(), map.keys_len(), map.taken()[0]), (1024, 101, 1024));
 }
 
 #[test]
@@ -174,7 +174,7 @@ fn a_limit_may_be_0() {
         assert_eq!(vacant_insert(&mut map, 7), Err(refused));
         assert_eq!(map.pack_to(0, 0), Ok(()));
         assert_eq!(map.pack_to(members + 1, 0), Err(Refused::Above));
-        assert_eq!((map.pop_front(), map.values_len(), map.keys_len(), map.taken()), (None, 0, 0, 0));
+        assert_eq!((map.pop_front(), map.values_len(), map.keys_len(), map.taken()), (None, 0, 0, [0; 16]));
         let back = ListOrderedMultimap::from_bytes_with_limits(&map.to_bytes(), members, rounds);
         assert_eq!(back.map(|mut back| back.append(7, 10)), Ok(Err(refused)));
     }
@@ -227,7 +227,7 @@ fn the_empty_map_has_nothing() {
     assert_eq!(map.get_all(&0).len() + map.remove_all(&0).len() + map.iter().len() + map.keys().len(), 0);
     assert_eq!(map.retain(|_, _| panic!("there is no pair")), 0);
     map.clear();
-    assert_eq!((map.entry_len(&0), map.contains_key(&0), map.taken()), (0, false, 0));
+    assert_eq!((map.entry_len(&0), map.contains_key(&0), map.taken()), (0, false, [0; 16]));
     assert_eq!(format!("{map:?}"), "{}");
 }
 
@@ -249,6 +249,7 @@ fn refusals_have_numbers_and_words() {
         (Refused::WrongLength, 13, "length is not 8 + 16 × n"),
         (Refused::WrongMembers, 14, "m is not the number of distinct members"),
         (Refused::LimitsAbove, 15, "members' limit above 256, or rounds' above 1,024"),
+        (Refused::NoPoster, 16, "poster above 15"),
     ];
     for (refused, number, words) in rows {
         assert_eq!(refused.number(), number);

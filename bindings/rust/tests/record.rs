@@ -54,3 +54,19 @@ fn a_record_s_limits_hold_it_and_are_not_too_high() {
     assert_eq!(map.append(8, 1), Err(Refused::Crowded));
     assert_eq!((map.append(3, 2), map.append(3, 3)), (Ok(true), Err(Refused::Full)));
 }
+
+// The check asks nothing of the posters' counters but their ceiling, which each stays at.
+#[test]
+fn a_record_may_have_any_counters() {
+    let mut record = Box::new(*sample().as_record());
+    for (poster, count) in record.taken.iter_mut().enumerate() {
+        *count = u32::MAX - poster as u32;
+    }
+    let mut map = ListOrderedMultimap::from_record(&record).unwrap();
+    for poster in [0, 1, 1, 2, 15] {
+        assert_eq!(map.posting_as(poster).append(3, 0), Ok(true));
+    }
+    let most = u64::from(u32::MAX);
+    assert_eq!(map.taken()[..4], [most, most, most - 1, most - 3]);
+    assert_eq!(map.taken()[14..], [most - 14, most - 14]);
+}

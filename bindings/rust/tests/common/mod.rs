@@ -1,7 +1,7 @@
 // Document 01's steps over plain vectors, under the package's names, and the comparison of a map with them.
 #![allow(dead_code)]
 
-use prelgammo::{KeyWrapper, ListOrderedMultimap, Refused, MEMBERS, ROUNDS};
+use prelgammo::{KeyWrapper, ListOrderedMultimap, Refused, MEMBERS, POSTERS, ROUNDS};
 
 // A small generator of numbers (splitmix64).
 pub struct Random(pub u64);
@@ -25,7 +25,7 @@ pub struct Model {
     pub most_rounds: usize,
     pub pairs: Vec<(u64, u64)>,
     pub members: Vec<u64>,
-    pub taken: u64,
+    pub taken: [u64; POSTERS],
 }
 
 impl Default for Model {
@@ -36,7 +36,7 @@ impl Default for Model {
 
 impl Model {
     pub fn with_limits(most_members: usize, most_rounds: usize) -> Model {
-        Model { most_members, most_rounds, pairs: Vec::new(), members: Vec::new(), taken: 0 }
+        Model { most_members, most_rounds, pairs: Vec::new(), members: Vec::new(), taken: [0; POSTERS] }
     }
 
     pub fn contains_key(&self, key: u64) -> bool {
@@ -57,12 +57,12 @@ impl Model {
         Ok(())
     }
 
-    fn add(&mut self, key: u64, value: u64) {
+    fn add(&mut self, poster: usize, key: u64, value: u64) {
         self.pairs.push((key, value));
         if !self.contains_key(key) {
             self.members.push(key);
         }
-        self.taken += 1;
+        self.taken[poster] += 1;
     }
 
     // Members without a pair leave.
@@ -71,20 +71,31 @@ impl Model {
         self.members.retain(|member| pairs.iter().any(|pair| pair.0 == *member));
     }
 
+    // As poster 0, as do the other calls that name none.
     pub fn append(&mut self, key: u64, value: u64) -> Result<bool, Refused> {
+        self.append_as(0, key, value)
+    }
+
+    pub fn append_as(&mut self, poster: u64, key: u64, value: u64) -> Result<bool, Refused> {
+        let poster = counter(poster)?;
         self.room(key)?;
         let present = self.contains_key(key);
-        self.add(key, value);
+        self.add(poster, key, value);
         Ok(present)
     }
 
     pub fn insert_all(&mut self, key: u64, value: u64) -> Result<Vec<u64>, Refused> {
+        self.insert_all_as(0, key, value)
+    }
+
+    pub fn insert_all_as(&mut self, poster: u64, key: u64, value: u64) -> Result<Vec<u64>, Refused> {
+        let poster = counter(poster)?;
         if !self.contains_key(key) {
             self.room(key)?;
         }
         let old = self.get_all(key);
         self.pairs.retain(|pair| pair.0 != key);
-        self.add(key, value);
+        self.add(poster, key, value);
         Ok(old)
     }
 
@@ -129,9 +140,13 @@ impl Model {
     }
 
     pub fn try_extend(&mut self, pairs: &[(u64, u64)]) -> Result<(), Refused> {
+        self.try_extend_as(0, pairs)
+    }
+
+    pub fn try_extend_as(&mut self, poster: u64, pairs: &[(u64, u64)]) -> Result<(), Refused> {
         let mut longer = self.clone();
         for &(key, value) in pairs {
-            longer.append(key, value)?;
+            longer.append_as(poster, key, value)?;
         }
         *self = longer;
         Ok(())
@@ -140,6 +155,15 @@ impl Model {
     pub fn clear(&mut self) {
         self.pairs.clear();
         self.members.clear();
+    }
+}
+
+// The poster's place among the counters.
+fn counter(poster: u64) -> Result<usize, Refused> {
+    if poster < POSTERS as u64 {
+        Ok(poster as usize)
+    } else {
+        Err(Refused::NoPoster)
     }
 }
 
