@@ -11,7 +11,7 @@
 #   oracle/run.sh sample                 write the sample of the crate's answers anew: its part of crates/stored_lists/stdin and stdout
 #
 # ORACLE_SOURCE names list_ordered_multimap.rs where it does not stand beside the work tree (oracle/build.sh).
-# ORACLE_WITHOUT_PORT=1 leaves the port out, so that rt is not needed: then document 01's steps are compared with the crate
+# ORACLE_WITHOUT_PORT=1 leaves the port out, so that rt is not needed: then the documents' steps are compared with the crate
 # alone, and there are no damaged records, images and times.
 set -eu
 

@@ -19,9 +19,9 @@ def joined(word, values):
 
 
 def call(steps, name, k=0, v=0, marks=''):
-    """The call's answer, with what it wrote to slices that have room for anything."""
+    """The call's answer, with what it wrote to slices that have room for anything. Its poster is 0."""
     out, out2 = [0] * ROUNDS, [0] * ROUNDS
-    said = steps.call(name, k, v, out, out2, [int(mark) for mark in marks])
+    said = steps.call(name, 0, k, v, out, out2, [int(mark) for mark in marks])
     return said, out, out2
 
 

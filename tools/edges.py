@@ -3,21 +3,23 @@
 crates/stored_lists/stdin and stdout, up to the list called "the crate's own answers". The lists from there on are oracle/driver/sample.rs's.
 
 How a list of calls is written as text, and what is printed of it, is in crates/tapes/specs; the numbers of a call are in
-crates/replay/specs/Tape.antt, those of an answer in crates/steps/specs/Coded.antt. In front of a call's six numbers stands its name; a
+crates/replay/specs/Tape.antt, those of an answer in crates/steps/specs/Coded.antt. In front of a call's seven numbers stands its name; a
 program that reads the text passes over it.
 
-T's ceiling, 4,294,967,295, is out of reach here: T grows by one with a call, and a list has at most 8,192. That T is the number of accepted
-rounds, up to its ceiling, is proved of every list: `taken-counts` (crates/steps/proofs/Taken.antt) of the steps, `counted` of `Obeys`
-(crates/steps/specs/Trace.antt) of the map.
+The ceiling of T's counters, 4,294,967,295, is out of reach here: a counter grows by one with a call, and a list has a few thousand at most.
+That each counter is the number of its poster's accepted rounds, up to its ceiling, is proved of every list: `taken-counts`
+(crates/steps/proofs/Taken.antt) of the steps, `counted` of `Obeys` (crates/steps/specs/Trace.antt) of the map.
 """
 import os
 
-from steps import MEMBERS, ROUNDS, make
+from steps import ADDING, MEMBERS, POSTERS, ROUNDS, make
 
 TOP = 2**64 - 1
 CALLS = """append insert insert_all remove remove_all entry occupied_append occupied_insert occupied_remove_entry vacant_insert pop_front pop_back
 retain pack_to clear get get_all entry_len contains_key keys keys_len values_len iter taken""".split()
-LENDING = ("insert_all", "remove_all", "get_all", "keys", "iter")
+LENDING = ("insert_all", "remove_all", "get_all", "keys", "iter", "taken")
+# the numbers of a call
+WIDTH = 7
 
 
 # --- lists of calls
@@ -51,9 +53,9 @@ class Calls:
         """The map that a list begins on: after a refused making it is there too."""
         return make(*self.limits)[1]
 
-    def raw(self, word, *six):
+    def raw(self, word, *seven):
         self.words.append(word)
-        self.numbers += six
+        self.numbers += seven
 
     def lend(self, n, n2=0):
         out = [9000 + len(self.outs) + i for i in range(n)]
@@ -62,20 +64,25 @@ class Calls:
         self.outs2 += out2
         return out, out2
 
-    def do(self, name, k=0, v=0, n=0, n2=0, marks=""):
+    def do(self, name, k=0, v=0, n=0, n2=0, marks="", poster=0):
+        """Makes the call; was it accepted?"""
         marks = [int(mark) for mark in marks]
-        self.raw(name, CALLS.index(name), k, v, n, n2, len(marks))
+        self.raw(name, CALLS.index(name), poster, k, v, n, n2, len(marks))
         self.marks += marks
         out, out2 = self.lend(n, n2)
-        self.steps.call(name, k, v, out, out2, marks)
+        return self.steps.call(name, poster, k, v, out, out2, marks)[0] != 0
 
     def fill(self, rounds, members, start=0):
         for i in range(rounds):
             self.do("append", members[i % len(members)], start + i)
 
+    def taken(self, n=POSTERS):
+        self.do("taken", n=n)
+
     def sizes(self):
-        for name in ("values_len", "keys_len", "taken"):
+        for name in ("values_len", "keys_len"):
             self.do(name)
+        self.taken()
 
     def show(self):
         """All that the map shows of P and K, into slices as long as needed."""
@@ -84,25 +91,25 @@ class Calls:
 
     def text(self):
         lines = []
-        for i in range(0, len(self.numbers), 6):
-            lines.append(self.words[i // 6] + " " + numbers(self.numbers[i : i + 6]))
+        for i in range(0, len(self.numbers), WIDTH):
+            lines.append(self.words[i // WIDTH] + " " + numbers(self.numbers[i : i + WIDTH]))
         return "%s; limits %s;\n%s\n; outs%s\n; second outs%s\n; marks%s\n; answers%s\n;" % (
             self.name, numbers(self.limits), "\n".join(lines), rows(32, self.outs), rows(32, self.outs2), rows(32, self.marks), rows(32, self.answers()))
 
     def answers(self):
-        return [9] * (4 * ((len(self.numbers) + 5) // 6) if self.room is None else self.room)
+        return [9] * (4 * len(self.words) if self.room is None else self.room)
 
     def run(self):
         """What the program prints: the calls are run up to the first that is none, or whose slices, marks or room for an answer are missing."""
         steps, answers, outs, outs2 = self.new(), self.answers(), list(self.outs), list(self.outs2)
         at = at2 = mark = ran = 0
-        while len(self.numbers) >= 6 * ran + 6:
-            op, k, v, n, n2, n3 = self.numbers[6 * ran : 6 * ran + 6]
+        while len(self.numbers) >= WIDTH * (ran + 1):
+            op, poster, k, v, n, n2, n3 = self.numbers[WIDTH * ran : WIDTH * (ran + 1)]
             known = op < len(CALLS) and (CALLS[op] in LENDING or n == 0) and (CALLS[op] == "iter" or n2 == 0) and (CALLS[op] == "retain" or n3 == 0)
             if not known or n > len(outs) - at or n2 > len(outs2) - at2 or n3 > len(self.marks) - mark or len(answers) - 4 * ran < 4:
                 break
             out, out2 = outs[at : at + n], outs2[at2 : at2 + n2]
-            answers[4 * ran : 4 * ran + 4] = steps.call(CALLS[op], k, v, out, out2, self.marks[mark : mark + n3])
+            answers[4 * ran : 4 * ran + 4] = steps.call(CALLS[op], poster, k, v, out, out2, self.marks[mark : mark + n3])
             outs[at : at + n], outs2[at2 : at2 + n2] = out, out2
             at, at2, mark, ran = at + n, at2 + n2, mark + n3, ran + 1
         return "%s ran %d%s\nouts%s\nouts2%s\n" % (self.name, ran, rows(4, answers), rows(16, outs), rows(16, outs2))
@@ -110,14 +117,14 @@ class Calls:
 
 # --- the edges
 
-def adding(calls, known, new):
+def adding(calls, known, new, poster=0):
     """Every call that may add, of a member that is there and of one that is not."""
     for k in (known, new):
         for name in ("append", "occupied_append", "vacant_insert"):
-            calls.do(name, k, 1)
-    calls.do("insert", new, 1)
-    calls.do("insert_all", new, 1)
-    calls.do("occupied_insert", new, 1)
+            calls.do(name, k, 1, poster=poster)
+    calls.do("insert", new, 1, poster=poster)
+    calls.do("insert_all", new, 1, poster=poster)
+    calls.do("occupied_insert", new, 1, poster=poster)
 
 
 def most_rounds():
@@ -159,12 +166,14 @@ def most_members():
 
 
 def both_full():
-    calls = Calls("with 1,024 rounds and 256 members, 9 and 10 come before 1, and 1 before 2")
+    calls = Calls("with 1,024 rounds and 256 members, 16 comes before 9 and 10, these before 1, and 1 before 2")
     calls.fill(1024, list(range(256)))
+    adding(calls, 3, 256, POSTERS)
     adding(calls, 3, 256)
     calls.do("insert_all", 3, 1, n=3)
     calls.do("pop_front")
-    adding(calls, 3, 256)
+    adding(calls, 3, 256, TOP)
+    adding(calls, 3, 256, POSTERS - 1)
     calls.do("remove_all", 4, n=4)
     calls.do("vacant_insert", 256, 1)
     calls.do("vacant_insert", 257, 1)
@@ -314,19 +323,80 @@ def ends_of_numbers():
 
 
 def taken():
-    calls = Calls("T counts the rounds taken in and nothing else")
-    calls.do("taken")
-    for name, k, more in (
+    calls = Calls("T counts the rounds taken in, for their posters, and nothing else")
+    calls.taken()
+    for poster, (name, k, more) in enumerate((
         ("append", 1, {}), ("append", 1, {}), ("insert", 1, {}), ("insert", 2, {}), ("insert_all", 1, {"n": 1}), ("insert_all", 3, {}),
         ("vacant_insert", 4, {}), ("occupied_append", 4, {}), ("occupied_insert", 4, {}),
         ("occupied_append", 5, {}), ("occupied_insert", 5, {}), ("vacant_insert", 4, {}), ("insert_all", 4, {"n": 0}),
         ("entry", 1, {}), ("get", 1, {}), ("get_all", 1, {"n": 1}), ("pack_to", 256, {"v": 1024}), ("pack_to", 0, {}), ("retain", 0, {"marks": "1011"}),
         ("pop_front", 0, {}), ("pop_back", 0, {}), ("remove", 3, {}), ("remove_all", 3, {}), ("occupied_remove_entry", 4, {}), ("append", 6, {}),
         ("clear", 0, {}), ("append", 6, {}),
-    ):
-        calls.do(name, k, **more)
-        calls.do("taken")
+    )):
+        calls.do(name, k, poster=poster % POSTERS, **more)
+        calls.taken()
     return calls
+
+
+def taken_slices():
+    """T from every poster, to slices shorter than sixteen numbers, as long and longer; and after calls that leave it."""
+    calls = Calls("T in slices of 0, 3, 15, 16, 17 and 20, each poster with a count of its own, and after clear, pack_to and refused adds")
+    for poster in range(POSTERS):
+        for _ in range(poster):
+            calls.do("append", poster, 1, poster=poster)
+    for name in ("append", "insert", "insert_all"):
+        calls.do(name, 1, 1, n=1 if name == "insert_all" else 0, poster=15)
+    lengths = (0, 3, 15, 16, 17, 20)
+    for n in lengths:
+        calls.taken(n)
+    for name, more in (("clear", {}), ("pack_to", {}), ("pack_to", {"k": 257}), ("append", {"poster": 16}), ("occupied_append", {"k": 9, "poster": 3})):
+        calls.do(name, **more)
+        calls.taken()
+    calls.do("append", 7, 1, poster=9)
+    for n in lengths:
+        calls.taken(n)
+    return calls
+
+
+# --- posters
+
+def posted(situation, held, members, rounds):
+    """Every adding call by the posters 0, 15, 16 and 2^64 - 1, of a member that is there and of one that is not, the old record's slice as long as
+    needed and one short; always on a map of these rounds."""
+    calls = Calls("posters 0, 15, 16 and 2^64 - 1 at every adding call, %s" % situation, members, rounds)
+
+    def hold():
+        calls.do("clear")
+        for k in held:
+            calls.do("append", k, 1, poster=5)
+
+    hold()
+    for k in (held[0], 9):
+        record = held.count(k)
+        for name in ADDING:
+            for n in sorted({record, max(record - 1, 0)}) if name == "insert_all" else (0,):
+                for poster in (TOP, 16, 15, 0):
+                    if calls.do(name, k, 2, n=n, poster=poster):
+                        hold()
+    calls.taken()
+    calls.show()
+    return calls
+
+
+def posters():
+    yield posted("with room", [1, 2, 1], 3, 5)
+    yield posted("with all rounds and members that the limits allow", [1, 2, 1], 2, 3)
+    yield posted("with all members that the limits allow", [1, 2, 1], 2, 5)
+    yield taken_slices()
+    calls = Calls("a call that adds nothing has no use for its poster")
+    calls.fill(4, [7, 9])
+    for name in reversed(CALLS):
+        if name not in ADDING:
+            calls.do(name, 7, 10, n=4 if name in LENDING else 0, n2=4 if name == "iter" else 0, marks="1101" if name == "retain" else "", poster=TOP)
+        if name == "clear":
+            calls.fill(4, [7, 9])
+    calls.sizes()
+    yield calls
 
 
 def nothing_held(name="every call on the empty map", *limits):
@@ -390,23 +460,24 @@ def begun(name):
 
 
 def ended(calls):
-    calls.raw("append", 0, 9, 20, 0, 0, 0)
-    calls.raw("values_len", 21, 0, 0, 0, 0, 0)
+    calls.raw("append", 0, 0, 9, 20, 0, 0, 0)
+    calls.raw("values_len", 21, 0, 0, 0, 0, 0, 0)
     return calls
 
 
 def malformed():
     """Lists that hold what is no call, or whose slices, marks or room end early; each is run up to there."""
-    for name, six in (
-        ("call 24", (24, 7, 1, 0, 0, 0)), ("call 2^64 - 1", (TOP, 7, 1, 0, 0, 0)),
-        ("an out slice for append", (0, 7, 1, 1, 0, 0)), ("a second out slice for get_all", (16, 7, 0, 1, 1, 0)), ("marks for append", (0, 7, 1, 0, 0, 1)),
-        ("an out slice for retain", (12, 0, 0, 1, 0, 2)), ("marks for iter", (22, 0, 0, 2, 1, 1)),
-        ("an out slice that is not all there", (16, 7, 0, 4, 0, 0)), ("an out slice of 2^64 - 1", (16, 7, 0, TOP, 0, 0)),
-        ("a second out slice that is not all there", (22, 0, 0, 3, 3, 0)), ("marks that are not all there", (12, 0, 0, 0, 0, 3)),
-        ("what is just there", (22, 0, 0, 3, 2, 0)),
+    for name, seven in (
+        ("call 24", (24, 0, 7, 1, 0, 0, 0)), ("call 2^64 - 1", (TOP, 0, 7, 1, 0, 0, 0)),
+        ("an out slice for append", (0, 0, 7, 1, 1, 0, 0)), ("a second out slice for get_all", (16, 0, 7, 0, 1, 1, 0)),
+        ("a second out slice for taken", (23, 0, 0, 0, 1, 1, 0)), ("marks for append", (0, 0, 7, 1, 0, 0, 1)),
+        ("an out slice for retain", (12, 0, 0, 0, 1, 0, 2)), ("marks for iter", (22, 0, 0, 0, 2, 1, 1)),
+        ("an out slice that is not all there", (16, 0, 7, 0, 4, 0, 0)), ("an out slice of 2^64 - 1", (16, 0, 7, 0, TOP, 0, 0)),
+        ("a second out slice that is not all there", (22, 0, 0, 0, 3, 3, 0)), ("marks that are not all there", (12, 0, 0, 0, 0, 0, 3)),
+        ("what is just there", (22, 0, 0, 0, 3, 2, 0)), ("T in what is just there", (23, 0, 0, 0, 3, 0, 0)),
     ):
         calls = begun(name)
-        calls.raw("then", *six)
+        calls.raw("then", *seven)
         calls.lend(3, 2)
         calls.marks += [1, 0]
         yield ended(calls)
@@ -414,7 +485,7 @@ def malformed():
         calls = ended(begun("room for %d numbers of answers" % room))
         calls.room = room
         yield calls
-    for cut in range(1, 6):
+    for cut in range(1, WIDTH):
         calls = ended(begun("the last call without its last %d numbers" % cut))
         del calls.numbers[-cut:]
         yield calls
@@ -515,6 +586,7 @@ def with_limits():
 
 def lists():
     yield from (marked(), nothing_held(), refusals(), slices(), ends_of_numbers(), taken(), retained(), every_marks(), shared_places())
+    yield from posters()
     yield from malformed()
     yield from with_limits()
     yield from (most_rounds(), most_members(), both_full(), again())

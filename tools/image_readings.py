@@ -3,14 +3,15 @@
 `python3 tools/image_readings.py`, which writes crates/image_readings/stdin and crates/image_readings/stdout.
 
 Each image stands after six bytes: its length, and the limits of members and of rounds that it is read into, two bytes each. A line for
-each: `refused` and the number; or P as `k:v`, K in order of first appearance, and T. Then the limits of the map that is left; and, where
-it was not refused, the length of the image written again, and how many of its bytes, and of those past it, are wrong: none.
+each: `refused` and the number; or P as `k:v`, K in order of first appearance, and T, all rounds of which are poster 0's. Then the limits of
+the map that is left; and, where it was not refused, the length of the image written again, and how many of its bytes, and of those past it,
+are wrong: none.
 """
 import os
 import random
 import struct
 
-ROUNDS, MEMBERS = 1024, 256
+ROUNDS, MEMBERS, POSTERS = 1024, 256, 16
 random.seed(7)
 
 
@@ -48,7 +49,8 @@ def line(s, members, rounds):
     keys = struct.unpack_from(f"<{n}Q", s, 8)
     values = struct.unpack_from(f"<{n}Q", s, 8 + 8 * n)
     words = ["list"] + [f"{k}:{v}" for k, v in zip(keys, values)] + ["keys"] + [str(k) for k in dict.fromkeys(keys)]
-    return " ".join(words + ["taken", str(n), limits, "image", str(len(s)), "wrong 0"])
+    taken = [str(n)] + ["0"] * (POSTERS - 1)
+    return " ".join(words + ["taken"] + taken + [limits, "image", str(len(s)), "wrong 0"])
 
 
 TOP = 2**64 - 1

@@ -6,13 +6,11 @@ use crate::calls::grouped;
 use crate::chart;
 use crate::clock::{deep, hold, keep_memory, median, time_copies, time_copy, time_handing, timed};
 use crate::crate_map::CrateMap;
-use crate::library::{ByValue, PortMap, Tapes};
+use crate::library::{ByValue, PortMap, Tapes, RECORD};
 use crate::model::{Call, Op, HIGHEST, MAX_MEMBERS, MAX_ROUNDS};
 use crate::port::{Port, Tape};
 use std::mem::MaybeUninit;
 
-// The bytes of the port's record.
-const RECORD: usize = 24_096;
 const RUNS: usize = 1001;
 const TOGETHER: usize = 250;
 const TAPES: usize = 101;

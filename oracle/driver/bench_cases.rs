@@ -1,6 +1,6 @@
-// The calls that are timed, and the maps that they are timed on.
+// The calls that are timed, all by poster 0, and the maps that they are timed on.
 
-use crate::model::{Call, Op, MAX_MEMBERS, MAX_ROUNDS};
+use crate::model::{Call, Op, MAX_MEMBERS, MAX_ROUNDS, POSTERS};
 
 // What a call of the port may take: no longer than the crate's, half of it, or so many plain copies of the record.
 #[derive(Clone, Copy)]
@@ -126,7 +126,7 @@ fn reading() -> Vec<Case> {
         case("entry", as_fast, filled(), half_absent(Op::Entry)),
         case("keys_len", as_fast, filled(), half_absent(Op::KeysLen)),
         case("values_len", as_fast, filled(), half_absent(Op::ValuesLen)),
-        case("T, which the crate has not", Aim::None, filled(), half_absent(Op::Taken)),
+        case("T, which the crate has not", Aim::None, filled(), repeated(1000, |_| Call::taken(POSTERS))),
         case("get_all of 4 rounds", as_fast, filled(), lent(Op::GetAll)),
         case(
             "get_all of 1,000 rounds",

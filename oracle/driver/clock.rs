@@ -1,5 +1,6 @@
 // Times of short work.
 
+use crate::library::RECORD;
 use std::time::Instant;
 
 // The copies that are timed together.
@@ -82,7 +83,7 @@ pub fn time_copies(bytes: usize) -> f64 {
 // As many bytes as the port's record.
 #[derive(Clone, Copy)]
 #[repr(C)]
-struct Block([u64; 3012]);
+struct Block([u64; RECORD / 8]);
 
 // Takes a record by value and hands it back, as C passes them, and does no more.
 #[inline(never)]
@@ -93,7 +94,7 @@ extern "C" fn hand_back(mut block: Block) -> Block {
 
 // What the least call by value takes: a record goes in from one place, and comes back to another.
 pub fn time_handing() -> f64 {
-    let (mut now, mut next) = (Box::new(Block([1; 3012])), Box::new(Block([0; 3012])));
+    let (mut now, mut next) = (Box::new(Block([1; RECORD / 8])), Box::new(Block([0; RECORD / 8])));
     let mut run = |calls: usize| {
         let mut work = || {
             for _ in 0..COPIES {

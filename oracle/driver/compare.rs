@@ -1,8 +1,8 @@
 // Runs lists of calls on the model, the crate and the port, and compares them after every call.
 
 use crate::crate_map::{strikes_neighbours, CrateMap};
-use crate::model::{Accounts, Answer, Call, Limits, Model, Op, RefusedBy, HIGHEST, OPS};
-use crate::port::{is_refusal, untouched, ModelPort, Port, Tape};
+use crate::model::{Accounts, Answer, Call, Counters, Limits, Model, Op, RefusedBy, HIGHEST, OPS, POSTERS};
+use crate::port::{is_refusal, untouched, ModelPort, Port, Tape, WIDTH};
 use crate::stops::{outcome_of, while_running};
 use std::fmt;
 
@@ -32,6 +32,11 @@ pub struct Tally {
     pub refused_by: RefusedBy,
     // those that a map which holds something refused, and would not have refused with the highest limits
     pub refused_by_own: RefusedBy,
+    // calls refused by 16: by their own numbers, and by what would have refused them next, 0 for nothing
+    pub by_no_poster: [u64; OPS.len()],
+    pub behind_no_poster: RefusedBy,
+    // rounds accepted, by their posters
+    pub accepted: Counters,
     // retains given to the crate in several passes
     pub split_retains: u64,
     // the most rounds and members held
@@ -56,13 +61,20 @@ impl Tally {
         self.made[op as usize] += 1;
         if let Answer::Refused(by) = answer {
             if !is_refusal(by) {
-                return Err(format!("the steps refuse by {}, which is no number of document 01", by));
+                return Err(format!("the steps refuse by {}, which is no number of documents 01 and 02", by));
             }
             self.refused[op as usize] += 1;
             self.refused_by[by as usize] += 1;
             self.refused_by_own[by as usize] += is_by_own_limits(call, model) as u64;
-        } else if op != Op::Taken {
-            self.on_crate[op as usize] += 1;
+            if by == 16 {
+                self.by_no_poster[op as usize] += 1;
+                self.behind_no_poster[model.refusal_by_lists(call).unwrap_or(0) as usize] += 1;
+            }
+        } else {
+            self.on_crate[op as usize] += (op != Op::Taken) as u64;
+            if op.posts() {
+                self.accepted[call.poster as usize] += 1;
+            }
         }
         self.most_rounds = self.most_rounds.max(model.pairs.len());
         self.most_members = self.most_members.max(model.members.len());
@@ -147,7 +159,7 @@ impl Session {
     // The tape on the ports whose turn it is.
     fn run_tape(&mut self, tape: &Tape) -> Result<(), String> {
         let turn = if self.lists % 16 == 1 { self.ports.len() } else { 1 };
-        let calls = tape.calls.len() as u64 / 6;
+        let calls = (tape.calls.len() / WIDTH) as u64;
         self.tally.tapes += 1;
         self.tally.on_port += calls;
         self.tally.one_by_one += if turn > 1 { calls } else { 0 };
@@ -214,7 +226,7 @@ fn call_crate(
     let found = outcome_of(|| map.call(call, &mut crate_out, &mut crate_out2));
     match found.map_err(|stop| format!("the crate {}", stop))? {
         Some(other) if other != answer => Err(format!("the crate answers {:?}, not {:?}", other, answer)),
-        _ if crate_out != out || crate_out2 != out2 => {
+        Some(_) if crate_out != out || crate_out2 != out2 => {
             let (found, due) = ([&crate_out[..], &crate_out2], [out, out2]);
             Err(format!("the crate leaves {}, not {}", text_of(&found), text_of(&due)))
         }
@@ -253,7 +265,7 @@ fn add_reads(model: &Model, named: u64, all: bool, list: &mut Vec<Call>) {
     list.push(Call::lending(Op::Keys, 0, 0, members + 1));
     list.push(Call::new(Op::KeysLen, 0, 0));
     list.push(Call::new(Op::ValuesLen, 0, 0));
-    list.push(Call::new(Op::Taken, 0, 0));
+    list.push(Call::taken(POSTERS + 1));
     list.push(Call::new(Op::ContainsKey, named, 0));
     list.push(Call::new(Op::Get, named, 0));
     list.push(Call::lending(Op::GetAll, named, 0, model.record(named).len() + 1));
@@ -295,10 +307,10 @@ fn part<'tape>(tape: &'tape Tape, answer: &Span, slice: &Span, slice2: &Span) ->
     [&tape.answers[answer.clone()], &tape.outs[slice.clone()], &tape.outs2[slice2.clone()]]
 }
 
-// A remark on four numbers that are no answer, since they refuse by a number that document 01 does not have.
+// A remark on four numbers that are no answer, since they refuse by a number that documents 01 and 02 do not have.
 fn unknown_refusal(words: &[u64]) -> String {
     match *words {
-        [0, number, 0, 0] if !is_refusal(number) => format!("; {} is no refusal of document 01", number),
+        [0, number, 0, 0] if !is_refusal(number) => format!("; {} is no refusal of documents 01 and 02", number),
         _ => String::new(),
     }
 }

@@ -15,7 +15,7 @@ impl CrateMap {
         CrateMap { map: ListOrderedMultimap::new() }
     }
 
-    // Makes a call that document 01 does not refuse. The crate has no T, so `taken` has no answer.
+    // Makes a call that documents 01 and 02 do not refuse. The crate has no posters and no T, so `taken` has no answer.
     pub fn call(&mut self, call: &Call, out: &mut [u64], out2: &mut [u64]) -> Option<Answer> {
         let (k, v) = (call.k, call.v);
         let map = &mut self.map;

@@ -1,9 +1,9 @@
 // Records damaged at random: the port's well_linked beside a check written here from document 01, module 6, and from document
-// 02, No. 1, with sets and plain loops.
+// 02, No. 1 and 2, with sets and plain loops. Of T's counters it asks nothing: each may be any number of its 32 bits.
 
 use crate::library::{Map, PortMap};
 use crate::lists::{start_place, Random};
-use crate::model::{Call, Limits, Op, HIGHEST};
+use crate::model::{Call, Limits, Op, HIGHEST, POSTERS};
 use crate::stops::while_running;
 use std::collections::HashSet;
 
@@ -106,14 +106,15 @@ fn sample(random: &mut Random) -> Map {
             1..=4 => Call::new(Op::Remove, k, 0),
             5..=8 => Call::new(Op::PopFront, 0, 0),
             9..=12 => Call::new(Op::PopBack, 0, 0),
-            _ => Call::new(Op::Append, k, random.below(100) as u64),
+            _ => Call::new(Op::Append, k, random.below(100) as u64).by(random.below(POSTERS) as u64),
         };
         map.call(&call, &mut [], &mut []);
     }
     *map.map()
 }
 
-// One number of the record set to another: near what it was, a place in use, or any. Sometimes a member number too, or T.
+// One number of the record set to another: near what it was, a place in use, or any. Sometimes a member number too, or a
+// counter of T, which may be any.
 fn damage(m: &mut Map, random: &mut Random) {
     let any = |random: &mut Random, old: u16| match random.below(4) {
         0 => old.wrapping_add(1),
@@ -122,7 +123,7 @@ fn damage(m: &mut Map, random: &mut Random) {
         _ => random.below(65536) as u16,
     };
     let near = |random: &mut Random, n: usize, end: usize| if random.below(4) == 0 { end } else { random.below(n) };
-    let slot: &mut u16 = match random.below(17) {
+    let slot: &mut u16 = match random.below(18) {
         0 => &mut m.length[near(random, 12, 11)],
         1 => &mut m.next_key[near(random, 12, 256)],
         2 => &mut m.previous_key[near(random, 12, 256)],
@@ -136,7 +137,8 @@ fn damage(m: &mut Map, random: &mut Random) {
             &mut m.index[at]
         }
         9 | 10 => return damage_limit(m, random),
-        11..=13 => [&mut m.keys_len, &mut m.keys_fresh, &mut m.keys_free].into_iter().nth(random.below(3)).unwrap(),
+        11 => return damage_counter(m, random),
+        12..=14 => [&mut m.keys_len, &mut m.keys_fresh, &mut m.keys_free].into_iter().nth(random.below(3)).unwrap(),
         _ => [&mut m.values_len, &mut m.values_fresh, &mut m.values_free].into_iter().nth(random.below(3)).unwrap(),
     };
     let new = any(random, *slot);
@@ -145,8 +147,14 @@ fn damage(m: &mut Map, random: &mut Random) {
         m.keys[random.below(12)] = random.below(12) as u64;
     }
     if random.below(20) == 0 {
-        m.taken = random.next() as u32;
+        damage_counter(m, random);
     }
+}
+
+// One of T's counters set to 0, to its ceiling, or to any number.
+fn damage_counter(m: &mut Map, random: &mut Random) {
+    let any = random.next() as u32;
+    m.taken[random.below(POSTERS)] = [0, u32::MAX, any][random.below(3)];
 }
 
 // One of the limits set to what is held, the highest limit, one beside either, or any number.

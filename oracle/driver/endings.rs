@@ -3,7 +3,7 @@
 
 use crate::compare::{Listed, Session, Tally};
 use crate::coverage;
-use crate::model::{Answer, Call, Model, Op, HIGHEST, MAX_MEMBERS, MAX_ROUNDS, OPS, REFUSALS};
+use crate::model::{Answer, Call, Model, Op, HIGHEST, MAX_MEMBERS, MAX_ROUNDS, OPS, POSTERS, REFUSALS};
 use crate::port::{replay_with, words, Port, Tape};
 use crate::selftest::{sample, WrongPort};
 use std::process::Command;
@@ -24,6 +24,9 @@ fn gaps_are_told() -> bool {
         on_crate: [1; OPS.len()],
         refused_by: [1; REFUSALS + 1],
         refused_by_own: [1; REFUSALS + 1],
+        by_no_poster: [1; OPS.len()],
+        behind_no_poster: [1; REFUSALS + 1],
+        accepted: [1; POSTERS],
         most_rounds: MAX_ROUNDS,
         most_members: MAX_MEMBERS,
         tapes: 1,
@@ -41,6 +44,9 @@ fn gaps_are_told() -> bool {
         && (0..OPS.len()).all(|op| without(&|tally| tally.made[op] = 0) == 1)
         && (1..=REFUSALS).all(|number| without(&|tally| tally.refused_by[number] = 0) == 1)
         && [1, 2, 6].iter().all(|&number| without(&|tally| tally.refused_by_own[number] = 0) == 1)
+        && OPS.iter().all(|(op, _)| without(&|tally| tally.by_no_poster[*op as usize] = 0) == op.posts() as usize)
+        && coverage::BEHIND.iter().all(|&number| without(&|tally| tally.behind_no_poster[number] = 0) == 1)
+        && (0..POSTERS).all(|poster| without(&|tally| tally.accepted[poster] = 0) == 1)
         && without(&|tally| tally.on_crate[Op::PopBack as usize] = 0) == 1
         && without(&|tally| tally.most_rounds -= 1) == 1
         && without(&|tally| tally.most_members -= 1) == 1
@@ -50,19 +56,19 @@ fn gaps_are_told() -> bool {
 
 // By the steps, which would be a fault of the driver's, and by a port.
 fn unknown_refusals_are_told() -> bool {
-    let port = WrongPort(|_, _, _, _| Answer::Refused(16));
+    let port = WrongPort(|_, _, _, _| Answer::Refused(17));
     let found = Session::new(vec![Box::new(port)]).list(HIGHEST, &sample()).err();
     let (append, model) = (Call::new(Op::Append, 1, 1), Model::new(HIGHEST));
     let counted = |number| Tally::default().count(&append, Answer::Refused(number), &model);
-    found.map_or(false, |found| found.what.contains("16 is no refusal of document 01"))
-        && [1, 15].map(counted) == [Ok(()), Ok(())]
-        && [0, 16, u64::MAX].map(counted).iter().all(|counted| counted.is_err())
+    found.map_or(false, |found| found.what.contains("17 is no refusal of documents 01 and 02"))
+        && [1, 16].map(counted) == [Ok(()), Ok(())]
+        && [0, 17, u64::MAX].map(counted).iter().all(|counted| counted.is_err())
 }
 
 fn panics_are_told() -> bool {
     let port = WrongPort(|_, call, _, _| panic!("{} stops the port", call));
     let found = Session::new(vec![Box::new(port)]).list(HIGHEST, &sample()).err();
-    found.map_or(false, |found| found.list == sample() && found.what.contains("append 7 10 stops the port"))
+    found.map_or(false, |found| found.list == sample() && found.what.contains("append 7 10 by 3 stops the port"))
 }
 
 // The ways to crash that are tried, each in a process of its own.

@@ -1,6 +1,7 @@
-// The image of a map (document 01, module 7) written and read over plain lists, from the document.
+// The image of a map (document 01, module 7, and document 02, No. 1 and 2) written and read over plain lists, from the
+// documents.
 
-use crate::model::{Limits, Model, Pair};
+use crate::model::{Limits, Model, Pair, POSTERS};
 
 // Sizes first; then the members of all pairs, then their rounds.
 pub fn write(model: &Model) -> Vec<u8> {
@@ -37,7 +38,10 @@ pub fn read(limits: Limits, bytes: &[u8]) -> Result<Model, u64> {
     if m != members.len() as u64 {
         return Err(14);
     }
-    Ok(Model { limits, pairs, members, taken: n as u64 })
+    // all of them are poster 0's
+    let mut taken = [0; POSTERS];
+    taken[0] = n as u64;
+    Ok(Model { limits, pairs, members, taken })
 }
 
 // The number in some bytes, lowest first.

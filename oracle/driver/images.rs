@@ -3,7 +3,7 @@
 use crate::image;
 use crate::library::{Map, PortMap};
 use crate::lists::Random;
-use crate::model::{Answer, Call, Limits, Model, Op, Pair, RefusedBy, HIGHEST, REFUSALS};
+use crate::model::{Answer, Call, Limits, Model, Op, Pair, RefusedBy, HIGHEST, POSTERS, REFUSALS};
 use crate::port::{is_refusal, untouched, words};
 use crate::stops::while_running;
 
@@ -62,7 +62,7 @@ impl Reader {
         let due = image::read(limits, bytes);
         let refused = due.as_ref().err().copied();
         if refused.map_or(false, |number| !is_refusal(number)) {
-            return Err(format!("image.rs refuses by {:?}, which is no number of document 01", refused));
+            return Err(format!("image.rs refuses by {:?}, which is no number of documents 01 and 02", refused));
         }
         self.read[refused.unwrap_or(0) as usize] += 1;
         let answer = words(refused.map_or(Answer::Done, Answer::Refused));
@@ -85,7 +85,7 @@ impl Reader {
             return Err(format!("the map has {}", self.map.map().limits()));
         }
         let (n, m) = (model.pairs.len(), model.members.len());
-        let calls = [Call::iter(n + 1, n + 2), Call::lending(Op::Keys, 0, 0, m + 1), Call::new(Op::Taken, 0, 0)];
+        let calls = [Call::iter(n + 1, n + 2), Call::lending(Op::Keys, 0, 0, m + 1), Call::taken(POSTERS + 1)];
         let mut lists = model.clone();
         for call in &calls {
             let (mut out, mut out2) = (untouched(call.out), untouched(call.out2));

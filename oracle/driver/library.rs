@@ -4,8 +4,11 @@
 use crate::declarations;
 pub use crate::declarations::Record as Map;
 use crate::lists::Random;
-use crate::model::{Call, Limits, Op, HIGHEST};
+use crate::model::{Call, Limits, Op, HIGHEST, POSTERS};
 use crate::port::{Port, Tape};
+
+// The bytes of the record.
+pub const RECORD: usize = std::mem::size_of::<Map>();
 
 // What an answer's numbers are before a call, which writes all four.
 pub const UNSAID: [u64; 4] = [u64::MAX; 4];
@@ -13,7 +16,7 @@ pub const UNSAID: [u64; 4] = [u64::MAX; 4];
 impl Map {
     // A record of any numbers: every pattern of bits is one.
     pub fn any(random: &mut Random) -> Map {
-        let words: Vec<u64> = (0..std::mem::size_of::<Map>() / 8).map(|_| random.next()).collect();
+        let words: Vec<u64> = (0..RECORD / 8).map(|_| random.next()).collect();
         unsafe { words.as_ptr().cast::<Map>().read() }
     }
 
@@ -73,22 +76,23 @@ impl PortMap {
         answer
     }
 
-    // The same, with the answer written where it is to stand. What stood there is not read.
+    // The same, with the answer written where it is to stand. What stood there is not read. Reading T in place writes sixteen
+    // numbers, so a slice that is shorter is lent by the call's number.
     #[inline]
     pub unsafe fn make(&mut self, call: &Call, out: &mut [u64], out2: &mut [u64], answer: *mut [u64; 4]) {
-        let (k, v, marks, map) = (call.k, call.v, &call.marks, &mut *self.map);
+        let (poster, k, v, marks, map) = (call.poster, call.k, call.v, &call.marks, &mut *self.map);
         // the arrays are lent for the call; each pointer and length are those of one slice, and nothing overlaps
         unsafe {
             match call.op {
-                Op::Append => declarations::append(map, k, v, answer),
-                Op::Insert => declarations::insert(map, k, v, answer),
-                Op::InsertAll => declarations::insert_all(map, k, v, out.as_mut_ptr(), out.len(), answer),
+                Op::Append => declarations::append(map, poster, k, v, answer),
+                Op::Insert => declarations::insert(map, poster, k, v, answer),
+                Op::InsertAll => declarations::insert_all(map, poster, k, v, out.as_mut_ptr(), out.len(), answer),
                 Op::Remove => declarations::remove(map, k, answer),
                 Op::RemoveAll => declarations::remove_all(map, k, out.as_mut_ptr(), out.len(), answer),
-                Op::OccupiedAppend => declarations::occupied_append(map, k, v, answer),
-                Op::OccupiedInsert => declarations::occupied_insert(map, k, v, answer),
+                Op::OccupiedAppend => declarations::occupied_append(map, poster, k, v, answer),
+                Op::OccupiedInsert => declarations::occupied_insert(map, poster, k, v, answer),
                 Op::OccupiedRemoveEntry => declarations::occupied_remove_entry(map, k, answer),
-                Op::VacantInsert => declarations::vacant_insert(map, k, v, answer),
+                Op::VacantInsert => declarations::vacant_insert(map, poster, k, v, answer),
                 Op::PopFront => declarations::pop_front(map, answer),
                 Op::PopBack => declarations::pop_back(map, answer),
                 Op::Retain => declarations::retain(map, marks.as_ptr(), marks.len(), answer),
@@ -106,19 +110,26 @@ impl PortMap {
                     let (out, len, out2, len2) = (out.as_mut_ptr(), out.len(), out2.as_mut_ptr(), out2.len());
                     declarations::iter(map, out, len, out2, len2, answer)
                 }
-                Op::Taken => declarations::taken(map, answer),
+                Op::Taken if out.len() < POSTERS => self.make_by_number(call, out, out2, answer),
+                Op::Taken => declarations::taken(map, out.as_mut_ptr().cast(), answer),
             }
         }
     }
 
     // Makes any call by its number.
     pub fn call_by_number(&mut self, call: &Call, out: &mut [u64], out2: &mut [u64]) -> [u64; 4] {
-        let (op, k, v, marks) = (call.op as u64, call.k, call.v, &call.marks);
-        let (out, len, out2, len2) = (out.as_mut_ptr(), out.len(), out2.as_mut_ptr(), out2.len());
         let mut answer = UNSAID;
-        let (map, said) = (&mut *self.map, &mut answer);
-        unsafe { declarations::call(map, op, k, v, out, len, out2, len2, marks.as_ptr(), marks.len(), said) };
+        // the answer is an array of its own
+        unsafe { self.make_by_number(call, out, out2, &mut answer) };
         answer
+    }
+
+    unsafe fn make_by_number(&mut self, call: &Call, out: &mut [u64], out2: &mut [u64], answer: *mut [u64; 4]) {
+        let (map, op, poster, k, v) = (&mut *self.map, call.op as u64, call.poster, call.k, call.v);
+        let (out, len, out2, len2) = (out.as_mut_ptr(), out.len(), out2.as_mut_ptr(), out2.len());
+        let (marks, marks_len) = (call.marks.as_ptr(), call.marks.len());
+        // each pointer and length are those of one slice, and nothing overlaps
+        unsafe { declarations::call(map, op, poster, k, v, out, len, out2, len2, marks, marks_len, answer) };
     }
 
     pub fn write_image(&self, out: &mut [u8]) -> [u64; 4] {
@@ -159,14 +170,14 @@ impl ByValue {
     }
 
     pub fn call(&mut self, call: &Call, out: &mut [u64], out2: &mut [u64]) -> [u64; 4] {
-        let (op, k, v, marks) = (call.op as u64, call.k, call.v, &call.marks);
+        let (now, next, op, poster, k, v) = (&*self.now, &mut *self.next, call.op as u64, call.poster, call.k, call.v);
         let (out, len, out2, len2) = (out.as_mut_ptr(), out.len(), out2.as_mut_ptr(), out2.len());
+        let (marks, marks_len) = (call.marks.as_ptr(), call.marks.len());
         let mut answer = UNSAID;
-        let (next, said) = (&mut *self.next, &mut answer);
-        let (marks, marks_len) = (marks.as_ptr(), marks.len());
+        let said = &mut answer;
         // the record that is given back is written where it is to stand; the one that is taken is copied by Rust for its
         // argument: once, or twice by rustc 1.63
-        unsafe { declarations::om_turn(next, *self.now, op, k, v, out, len, out2, len2, marks, marks_len, said) };
+        unsafe { declarations::om_turn(next, *now, op, poster, k, v, out, len, out2, len2, marks, marks_len, said) };
         std::mem::swap(&mut self.now, &mut self.next);
         answer
     }

@@ -1,9 +1,9 @@
 // The lists of calls that are run: all short ones, all arrangements with all marks, the edges, and random ones; on maps with
-// the highest limits, and on maps with lower ones.
+// the highest limits, and on maps with lower ones; by all posters, and by numbers that are none.
 
 use crate::compare::{Difference, Run, Session};
 use crate::crate_map::strikes_neighbours;
-use crate::model::{Call, Limits, Model, Op, HIGHEST, MAX_MEMBERS, MAX_ROUNDS};
+use crate::model::{Call, Limits, Model, Op, HIGHEST, MAX_MEMBERS, MAX_ROUNDS, POSTERS};
 use crate::port::untouched;
 
 // A small generator of numbers (splitmix64).
@@ -89,8 +89,8 @@ fn random_limits(random: &mut Random) -> Limits {
 
 type Outcome = Result<(), Difference>;
 
-// Every list of up to `depth` calls made of the shapes below, over two members that collide in the port's index; and shorter
-// ones on maps with other limits.
+// Every list of up to `depth` calls made of the shapes below, over two members that collide in the port's index, each call by
+// another poster; and shorter ones on maps with other limits.
 pub fn every_short_list(session: &mut Session, depth: usize) -> Outcome {
     let own = OWN.iter().filter(|own| own.members.min(own.rounds) <= 2 || own.too_high());
     let lists = own.map(|own| (*own, depth.min(4) - 1)).chain([(HIGHEST, depth)]);
@@ -105,9 +105,10 @@ fn extend(session: &mut Session, run: &Run, members: &[u64], depth: usize) -> Ou
     if depth == 0 {
         return Ok(());
     }
-    for call in shapes(&run.model, members, 10 + run.list.len() as u64) {
+    let at = run.list.len() as u64;
+    for call in shapes(&run.model, members, 10 + at) {
         let mut longer = run.clone();
-        session.call(&mut longer, call)?;
+        session.call(&mut longer, call.by(at))?;
         session.end(&longer, run.list.len())?;
         extend(session, &longer, members, depth - 1)?;
     }
@@ -152,7 +153,7 @@ pub fn every_arrangement(session: &mut Session, most: u32) -> Outcome {
             let mut run = session.begin(HIGHEST);
             for at in 0..n {
                 let k = members[number / 3usize.pow(at) % 3];
-                session.call(&mut run, Call::new(Op::Append, k, 10 + at as u64))?;
+                session.call(&mut run, Call::new(Op::Append, k, 10 + at as u64).by(15 - at as u64))?;
             }
             session.end(&run, 0)?;
             for bits in 0..1usize << n {
@@ -210,7 +211,8 @@ fn sizes_beside(own: Limits) -> Vec<Size> {
 fn edges_of(session: &mut Session, limits: Limits, (rounds, members): Size, pool: &[u64]) -> Outcome {
     let mut run = session.begin(limits);
     for at in 0..rounds {
-        session.call(&mut run, Call::new(Op::Append, pool[at % members], at as u64))?;
+        let (member, poster) = (pool[at % members], at % POSTERS);
+        session.call(&mut run, Call::new(Op::Append, member, at as u64).by(poster as u64))?;
     }
     session.end(&run, 0)?;
     for call in edge_calls(&run.model, pool[MAX_MEMBERS]) {
@@ -224,30 +226,38 @@ fn edge(session: &mut Session, mut run: Run, call: Call, pool: &[u64]) -> Outcom
     let from = run.list.len();
     session.call(&mut run, call)?;
     session.call(&mut run, Call::new(Op::Append, pool[0], 1))?;
-    session.call(&mut run, Call::new(Op::Append, pool[MAX_MEMBERS], 2))?;
-    session.call(&mut run, Call::lending(Op::InsertAll, pool[0], 3, MAX_ROUNDS))?;
+    session.call(&mut run, Call::new(Op::Append, pool[MAX_MEMBERS], 2).by(7))?;
+    session.call(&mut run, Call::lending(Op::InsertAll, pool[0], 3, MAX_ROUNDS).by(15))?;
     session.call(&mut run, Call::new(Op::PopFront, 0, 0))?;
     session.call(&mut run, Call::new(Op::Append, pool[MAX_MEMBERS], 4))?;
     session.call(&mut run, Call::new(Op::PopBack, 0, 0))?;
     session.end(&run, from)
 }
 
+// The first poster and the last, and the numbers at the ends of those that are none.
+const EDGE_POSTERS: [u64; 4] = [0, 15, 16, u64::MAX];
+
 fn edge_calls(model: &Model, absent: u64) -> Vec<Call> {
     let adding = [Op::Append, Op::Insert, Op::OccupiedAppend, Op::OccupiedInsert, Op::VacantInsert];
     let others = [Op::Remove, Op::OccupiedRemoveEntry, Op::Entry, Op::Get, Op::EntryLen, Op::ContainsKey];
-    let plain = [Op::PopFront, Op::PopBack, Op::Clear, Op::KeysLen, Op::ValuesLen, Op::Taken];
+    let plain = [Op::PopFront, Op::PopBack, Op::Clear, Op::KeysLen, Op::ValuesLen];
     let (n, m) = (model.pairs.len(), model.members.len());
     let around = |len: usize| [len.saturating_sub(1), len, len + 3];
     let mut calls = Vec::new();
     let ends = [model.members.first(), model.members.last()].into_iter().flatten();
     for &k in ends.chain([&absent]) {
-        calls.extend(adding.map(|op| Call::new(op, k, 7)));
+        let lengths = around(model.record(k).len());
+        for poster in EDGE_POSTERS {
+            calls.extend(adding.map(|op| Call::new(op, k, 7).by(poster)));
+            calls.extend(lengths.map(|out| Call::lending(Op::InsertAll, k, 7, out).by(poster)));
+        }
         calls.extend(others.map(|op| Call::new(op, k, 0)));
-        for op in [Op::InsertAll, Op::RemoveAll, Op::GetAll] {
-            calls.extend(around(model.record(k).len()).map(|out| Call::lending(op, k, 7, out)));
+        for op in [Op::RemoveAll, Op::GetAll] {
+            calls.extend(lengths.map(|out| Call::lending(op, k, 7, out)));
         }
     }
     calls.extend(plain.map(|op| Call::new(op, 0, 0)));
+    calls.extend([0, 3, 15, 16, 17, 20].map(Call::taken));
     calls.extend(around(m).map(|out| Call::lending(Op::Keys, 0, 0, out)));
     calls.extend(around(n).map(|out| Call::iter(out, n)));
     calls.extend(around(n).map(|out| Call::iter(n, out)));
@@ -299,7 +309,24 @@ fn random_op(random: &mut Random, lean: Lean) -> Op {
     Op::Clear
 }
 
+// A call by a random poster, also where it has no use for one.
 fn random_call(random: &mut Random, model: &Model, pool: &[u64], lean: Lean) -> Call {
+    let call = random_call_by_0(random, model, pool, lean);
+    call.by(random_poster(random))
+}
+
+// Mostly one that there is; sometimes 16, the largest number, or any other above 15.
+fn random_poster(random: &mut Random) -> u64 {
+    match random.below(64) {
+        0 => POSTERS as u64,
+        1 => u64::MAX,
+        2 => POSTERS as u64 + random.below(300) as u64,
+        3 => random.next().max(POSTERS as u64),
+        _ => random.below(POSTERS) as u64,
+    }
+}
+
+fn random_call_by_0(random: &mut Random, model: &Model, pool: &[u64], lean: Lean) -> Call {
     let op = random_op(random, lean);
     let k = random.pick(pool);
     let v = if random.below(2) == 0 { random.below(4) as u64 } else { random.next() };
@@ -310,6 +337,7 @@ fn random_call(random: &mut Random, model: &Model, pool: &[u64], lean: Lean) -> 
         }
         Op::Keys => Call::lending(op, 0, 0, random_length(random, m)),
         Op::Iter => Call::iter(random_length(random, n), random_length(random, n)),
+        Op::Taken => Call::taken(random_length(random, POSTERS)),
         Op::Retain => Call::retain(random_marks(random, n, lean)),
         Op::PackTo => {
             let Limits { members, rounds } = model.limits;
@@ -382,8 +410,8 @@ fn one_more(session: &mut Session, random: &mut Random, run: &mut Run, pool: &[u
     session.call(run, call)
 }
 
-// Limits, and a short list of calls within them that the crate takes as they are: none that document 01 refuses, no retain on
-// which the crate stops, and not `taken`, which it does not have. At the end P and K are read.
+// Limits, and a short list of calls within them that the crate takes as they are: none that documents 01 and 02 refuse, no
+// retain on which the crate stops, and not `taken`, which it does not have. At the end P and K are read.
 pub fn list_for_the_crate(random: &mut Random) -> (Limits, Vec<Call>) {
     let (count, kind) = (1 + random.below(6), random.below(3));
     let pool = pools(count, random)[kind].clone();

@@ -1,4 +1,4 @@
-// Runs lists of calls beside the Rust crate: on document 01's steps, on the crate and on the port.
+// Runs lists of calls beside the Rust crate: on the steps of documents 01 and 02, on the crate and on the port.
 #![allow(unknown_lints, unexpected_cfgs)]
 
 #[cfg(not(without_port))]
@@ -152,6 +152,11 @@ fn print_tally(session: &Session) {
     println!("refusals by number: {}", by.join(", "));
     let own: Vec<String> = [1, 2, 6].map(|number| format!("{}: {}", number, tally.refused_by_own[number])).into();
     println!("of these, only for the map's own limits: {}", own.join(", "));
+    let next: Vec<String> =
+        coverage::BEHIND.map(|number| format!("{}: {}", number, tally.behind_no_poster[number])).into();
+    println!("of those by 16, these would have been next: {}", next.join(", "));
+    let accepted = tally.accepted.map(|count| count.to_string());
+    println!("rounds accepted, by poster from 0 to 15: {}", accepted.join(" "));
     println!("most rounds held: {}, most members held: {}", tally.most_rounds, tally.most_members);
     println!("retains given to the crate in several passes: {}", tally.split_retains);
     println!("tapes run by the port: {}, with {} calls", tally.tapes, tally.on_port);

@@ -1,15 +1,21 @@
-// Document 01's refusals and steps over plain lists, written from the document. Every other map is held to this one.
+// Document 01's refusals and steps over plain lists, with a map's own limits and a counter for each poster, written from
+// documents 01 and 02 (No. 1 and 2). Every other map is held to this one.
 
 use std::fmt;
 
 pub const MAX_ROUNDS: usize = 1024;
 pub const MAX_MEMBERS: usize = 256;
 pub const MAX_TAKEN: u64 = 4_294_967_295;
+// posters have the numbers from 0 on
+pub const POSTERS: usize = 16;
 // refusals have the numbers from 1 on
-pub const REFUSALS: usize = 15;
+pub const REFUSALS: usize = 16;
 
 // How often something was refused, by the refusals' numbers.
 pub type RefusedBy = [u64; REFUSALS + 1];
+
+// Rounds by their posters.
+pub type Counters = [u64; POSTERS];
 
 // The calls, in the order of their numbers in a tape.
 #[derive(Clone, Copy, Debug, PartialEq, Eq)]
@@ -78,9 +84,15 @@ impl Op {
         matches!(self, Entry | Get | GetAll | EntryLen | ContainsKey | Keys | KeysLen | ValuesLen | Iter | Taken)
     }
 
+    // Does the call add a round, for which it has a poster?
+    pub fn posts(self) -> bool {
+        use Op::*;
+        matches!(self, Append | Insert | InsertAll | OccupiedAppend | OccupiedInsert | VacantInsert)
+    }
+
     // Has the call an out slice?
     pub fn lends(self) -> bool {
-        matches!(self, Op::InsertAll | Op::RemoveAll | Op::GetAll | Op::Keys | Op::Iter)
+        matches!(self, Op::InsertAll | Op::RemoveAll | Op::GetAll | Op::Keys | Op::Iter | Op::Taken)
     }
 }
 
@@ -88,6 +100,8 @@ impl Op {
 #[derive(Clone, Debug, PartialEq, Eq)]
 pub struct Call {
     pub op: Op,
+    // who posts the round; a call that adds none has no use for it
+    pub poster: u64,
     // the member; for pack_to the members' minimum
     pub k: u64,
     // the round; for pack_to the rounds' minimum
@@ -99,8 +113,14 @@ pub struct Call {
 }
 
 impl Call {
+    // By poster 0.
     pub fn new(op: Op, k: u64, v: u64) -> Call {
-        Call { op, k, v, out: 0, out2: 0, marks: Vec::new() }
+        Call { op, poster: 0, k, v, out: 0, out2: 0, marks: Vec::new() }
+    }
+
+    // The same call by another poster.
+    pub fn by(self, poster: u64) -> Call {
+        Call { poster, ..self }
     }
 
     pub fn lending(op: Op, k: u64, v: u64, out: usize) -> Call {
@@ -113,6 +133,10 @@ impl Call {
 
     pub fn retain(marks: Vec<u8>) -> Call {
         Call { marks, ..Call::new(Op::Retain, 0, 0) }
+    }
+
+    pub fn taken(out: usize) -> Call {
+        Call::lending(Op::Taken, 0, 0, out)
     }
 }
 
@@ -131,6 +155,9 @@ impl fmt::Display for Call {
                 }
             }
             _ => {}
+        }
+        if self.op.posts() && self.poster > 0 {
+            write!(f, " by {}", self.poster)?;
         }
         if self.op == Op::Iter {
             write!(f, " (slices of {} and {})", self.out, self.out2)?;
@@ -188,15 +215,15 @@ pub struct Model {
     pub pairs: Vec<Pair>,
     // K
     pub members: Vec<u64>,
-    // T
-    pub taken: u64,
+    // T, of each poster
+    pub taken: Counters,
 }
 
 impl Model {
     // The answer to the making of a map with these limits, and the map: with both limits 0 where it may not have them.
     pub fn make(limits: Limits) -> (Answer, Model) {
         let (answer, limits) = if limits.too_high() { (Answer::Refused(15), NONE) } else { (Answer::Done, limits) };
-        (answer, Model { limits, pairs: Vec::new(), members: Vec::new(), taken: 0 })
+        (answer, Model { limits, pairs: Vec::new(), members: Vec::new(), taken: [0; POSTERS] })
     }
 
     pub fn new(limits: Limits) -> Model {
@@ -211,8 +238,14 @@ impl Model {
         self.pairs.iter().filter(|p| p.0 == k).map(|p| p.1).collect()
     }
 
-    // The number of the first row of the table that turns the call away.
+    // The number of the first row of the table that turns the call away: before all others, that there is no such poster.
     pub fn refusal(&self, call: &Call) -> Option<u64> {
+        let no_poster = call.op.posts() && call.poster >= POSTERS as u64;
+        no_poster.then_some(16).or_else(|| self.refusal_by_lists(call))
+    }
+
+    // The same where the poster is one.
+    pub fn refusal_by_lists(&self, call: &Call) -> Option<u64> {
         let full = self.pairs.len() as u64 >= self.limits.rounds;
         let crowded = self.members.len() as u64 >= self.limits.members;
         let absent = !self.present(call.k);
@@ -250,19 +283,19 @@ impl Model {
     }
 
     fn act(&mut self, call: &Call, out: &mut [u64], out2: &mut [u64]) -> Answer {
-        let (k, v) = (call.k, call.v);
+        let k = call.k;
         match call.op {
             Op::Append => {
                 let present = self.present(k);
-                self.add(k, v);
+                self.add(call);
                 Answer::Present(present)
             }
             Op::OccupiedAppend | Op::VacantInsert => {
-                self.add(k, v);
+                self.add(call);
                 Answer::Done
             }
-            Op::Insert | Op::OccupiedInsert => first(&self.replace(k, v)),
-            Op::InsertAll => write(&self.replace(k, v), out),
+            Op::Insert | Op::OccupiedInsert => first(&self.replace(call)),
+            Op::InsertAll => write(&self.replace(call), out),
             Op::Remove | Op::OccupiedRemoveEntry => first(&self.remove_member(k)),
             Op::RemoveAll => write(&self.remove_member(k), out),
             Op::Entry if self.present(k) => Answer::Occupied(self.record(k).len() as u64),
@@ -289,23 +322,26 @@ impl Model {
                 write(&keys, out);
                 write(&values, out2)
             }
-            Op::Taken => Answer::Count(self.taken),
+            // as many as the slice holds
+            Op::Taken => write(&self.taken[..out.len().min(POSTERS)], out),
         }
     }
 
-    fn add(&mut self, k: u64, v: u64) {
-        self.pairs.push((k, v));
-        if !self.present(k) {
-            self.members.push(k);
+    // Adds the call's round, and counts it for its poster.
+    fn add(&mut self, call: &Call) {
+        self.pairs.push((call.k, call.v));
+        if !self.present(call.k) {
+            self.members.push(call.k);
         }
-        self.taken = (self.taken + 1).min(MAX_TAKEN);
+        let counter = &mut self.taken[call.poster as usize];
+        *counter = (*counter + 1).min(MAX_TAKEN);
     }
 
     // These two give back the old record.
-    fn replace(&mut self, k: u64, v: u64) -> Vec<u64> {
-        let old = self.record(k);
-        self.pairs.retain(|p| p.0 != k);
-        self.add(k, v);
+    fn replace(&mut self, call: &Call) -> Vec<u64> {
+        let old = self.record(call.k);
+        self.pairs.retain(|p| p.0 != call.k);
+        self.add(call);
         old
     }
 
@@ -350,10 +386,10 @@ fn write(list: &[u64], out: &mut [u64]) -> Answer {
     Answer::Count(list.len() as u64)
 }
 
-// The rounds accepted, handed out and dropped in a list of calls, as document 01 counts them.
+// The rounds accepted, of each poster, handed out and dropped in a list of calls, as documents 01 and 02 count them.
 #[derive(Clone, Debug, Default)]
 pub struct Accounts {
-    accepted: u64,
+    accepted: Counters,
     handed_out: u64,
     dropped: u64,
 }
@@ -364,10 +400,8 @@ impl Accounts {
         if let Answer::Refused(_) = answer {
             return;
         }
-        match call.op {
-            Op::Append | Op::OccupiedAppend | Op::VacantInsert => self.accepted += 1,
-            Op::Insert | Op::InsertAll | Op::OccupiedInsert => self.accepted += 1,
-            _ => {}
+        if call.op.posts() {
+            self.accepted[call.poster as usize] += 1;
         }
         match call.op {
             Op::Insert | Op::Remove | Op::OccupiedInsert | Op::OccupiedRemoveEntry if record > 0 => {
@@ -382,9 +416,10 @@ impl Accounts {
         }
     }
 
-    // Accepted is held, handed out and dropped together; and T is the accepted rounds, up to its ceiling.
+    // Accepted, of all posters summed, is held, handed out and dropped together; and each counter of T is its poster's
+    // accepted rounds, up to its ceiling.
     pub fn balanced(&self, model: &Model) -> bool {
-        self.accepted == model.pairs.len() as u64 + self.handed_out + self.dropped
-            && model.taken == self.accepted.min(MAX_TAKEN)
+        self.accepted.iter().sum::<u64>() == model.pairs.len() as u64 + self.handed_out + self.dropped
+            && model.taken == self.accepted.map(|accepted| accepted.min(MAX_TAKEN))
     }
 }

@@ -2,9 +2,12 @@
 
 use crate::model::{Answer, Call, Limits, Model, Op, OPS, REFUSALS};
 
-// A tape: the limits of the new map that it is run on; six numbers for each call (its number, k, v, the lengths of its out
-// slice, its second one and its marks); all out slices, second ones and marks one after the other, each kind on its own; and
-// room for four numbers of each answer.
+// How many numbers of a tape a call is.
+pub const WIDTH: usize = 7;
+
+// A tape: the limits of the new map that it is run on; seven numbers for each call (its number, its poster, k, v, the lengths
+// of its out slice, its second one and its marks); all out slices, second ones and marks one after the other, each kind on its
+// own; and room for four numbers of each answer.
 #[derive(Clone, Debug, PartialEq, Eq)]
 pub struct Tape {
     pub limits: Limits,
@@ -22,12 +25,12 @@ pub fn untouched(len: usize) -> Vec<u64> {
 
 impl Tape {
     pub fn of(limits: Limits, list: &[Call]) -> Tape {
-        let mut calls = Vec::with_capacity(6 * list.len());
+        let mut calls = Vec::with_capacity(WIDTH * list.len());
         let mut marks = Vec::new();
         let (mut out, mut out2) = (0, 0);
         for call in list {
             let lengths = [call.out as u64, call.out2 as u64, call.marks.len() as u64];
-            calls.extend([call.op as u64, call.k, call.v]);
+            calls.extend([call.op as u64, call.poster, call.k, call.v]);
             calls.extend(lengths);
             marks.extend(&call.marks);
             out += call.out;
@@ -41,16 +44,17 @@ impl Tape {
     pub fn decode(&self) -> Vec<Call> {
         let mut list: Vec<Call> = Vec::new();
         let mut room = [self.outs.len() as u64, self.outs2.len() as u64, self.marks.len() as u64];
-        for six in self.calls.chunks_exact(6) {
-            let lengths = [six[3], six[4], six[5]];
+        for call in self.calls.chunks_exact(WIDTH) {
+            let (number, lengths) = (call[0], [call[4], call[5], call[6]]);
             let space = self.answers.len() - 4 * list.len();
-            if space < 4 || !fits(six[0], lengths, room) {
+            if space < 4 || !fits(number, lengths, room) {
                 break;
             }
             let start = self.marks.len() - room[2] as usize;
-            let marks = self.marks[start..start + six[5] as usize].to_vec();
-            let op = OPS[six[0] as usize].0;
-            list.push(Call { op, k: six[1], v: six[2], out: six[3] as usize, out2: six[4] as usize, marks });
+            let [out, out2, marks] = lengths.map(|length| length as usize);
+            let marks = self.marks[start..start + marks].to_vec();
+            let op = OPS[number as usize].0;
+            list.push(Call { op, poster: call[1], k: call[2], v: call[3], out, out2, marks });
             for (left, length) in room.iter_mut().zip(lengths) {
                 *left -= length;
             }
@@ -103,7 +107,7 @@ pub fn answer_of(words: &[u64]) -> Option<Answer> {
     Some(answer)
 }
 
-// Has document 01 a refusal of this number?
+// Have documents 01 and 02 a refusal of this number?
 pub fn is_refusal(number: u64) -> bool {
     (1..=REFUSALS as u64).contains(&number)
 }

@@ -1,11 +1,12 @@
 // A sample of the crate's answers: lists of calls as text, and what the port's program stored_lists must print of them, after
 // those of tools/edges.py. How both are written is in crates/tapes/specs; what is printed is made by the crate alone. It has no
-// limits, so the lists stay within theirs. The gate compares it with what the port prints.
+// limits and no posters, so the lists stay within their limits and have posters that there are. The gate compares it with what
+// the port prints.
 
 use crate::crate_map::CrateMap;
 use crate::lists::{self, Random};
 use crate::model::{Call, Limits, HIGHEST, OPS};
-use crate::port::{replay_with, words, Tape};
+use crate::port::{replay_with, words, Tape, WIDTH};
 use std::fs;
 
 const LISTS: usize = 190;
@@ -31,13 +32,13 @@ fn rows<Number: ToString>(width: usize, numbers: &[Number]) -> String {
 
 // In front of a call's numbers stands its name, which the program passes over.
 fn input(name: &str, tape: &Tape) -> String {
-    let call = |six: &[u64]| format!("\n{}{}", OPS[six[0] as usize].1, rows(6, six).replace('\n', " "));
+    let call = |call: &[u64]| format!("\n{}{}", OPS[call[0] as usize].1, rows(WIDTH, call).replace('\n', " "));
     format!(
         "{}; limits {} {};{}\n; outs{}\n; second outs{}\n; marks{}\n; answers{}\n;\n",
         name,
         tape.limits.members,
         tape.limits.rounds,
-        tape.calls.chunks(6).map(call).collect::<String>(),
+        tape.calls.chunks(WIDTH).map(call).collect::<String>(),
         rows(32, &tape.outs),
         rows(32, &tape.outs2),
         rows(32, &tape.marks),

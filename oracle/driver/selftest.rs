@@ -7,8 +7,8 @@ use crate::endings;
 use crate::image;
 use crate::lines::{answer_chunk, Book};
 use crate::lists::{self, fnv, start_place, Random};
-use crate::model::{Answer, Call, Limits, Model, Op, HIGHEST, MAX_ROUNDS, NONE};
-use crate::port::{answer_of, replay_with, words, ModelPort, OneByOne, Port, Tape};
+use crate::model::{Answer, Call, Limits, Model, Op, HIGHEST, MAX_ROUNDS, NONE, OPS, POSTERS};
+use crate::port::{answer_of, replay_with, words, ModelPort, OneByOne, Port, Tape, WIDTH};
 use crate::shrink::shrink;
 use crate::stops::note_panics;
 
@@ -18,6 +18,7 @@ pub fn run() -> bool {
         ("the marked table", marked_table()),
         ("edges", edges()),
         ("limits of a map's own", own_limits()),
+        ("posters", posters()),
         ("FNV-1a by its published values", published_hashes()),
         ("tapes decode to their lists", tapes_decode()),
         ("odd tapes end where they should", odd_tapes_end()),
@@ -91,8 +92,8 @@ fn edges() -> bool {
         && append(&mut rounds, 999) == Answer::Refused(1)
         && append(&mut members, 999) == Answer::Refused(2)
         && append(&mut members, 255) == Answer::Present(true)
-        && rounds.taken == 1024
-        && members.taken == 301
+        && rounds.taken[0] == 1024
+        && members.taken[0] == 301
 }
 
 // A map for two members and three rounds is full against these, also after clear and pack_to; limits of 0 let nothing in;
@@ -122,21 +123,49 @@ fn own_limits() -> bool {
         && [(257, 0), (0, 1025), (u64::MAX, u64::MAX)].iter().all(|&(m, r)| made(m, r) == (Answer::Refused(15), NONE))
 }
 
+// Each poster's rounds are counted on their own, also where they go over a record, and no call takes one back. A number above
+// 15 is refused by 16, whatever else there is to refuse; a call that adds nothing does not look at it. T is written as far as
+// its slice goes.
+fn posters() -> bool {
+    let mut model = Model::new(Limits { members: 1, rounds: 2 });
+    let mut answer = |call: Call| model.step(&call, &mut vec![0; call.out], &mut []);
+    let add = |poster| Call::new(Op::Append, 7, 1).by(poster);
+    let counted = [add(3), add(15), Call::lending(Op::InsertAll, 7, 2, 2).by(3), add(0)].map(&mut answer);
+    // of the member that is there, where the map is full, and of one that is not
+    let adding: Vec<Op> = OPS.iter().map(|row| row.0).filter(|op| op.posts()).collect();
+    let calls = adding.iter().flat_map(|&op| [7, 8].map(|k| Call::new(op, k, 1)));
+    let by_none = calls.flat_map(|call| [16, 255, u64::MAX].map(|poster| call.clone().by(poster)));
+    let refused = by_none.map(&mut answer).all(|answer| answer == Answer::Refused(16));
+    let others = [Op::PopFront, Op::Clear].map(|op| answer(Call::new(op, 0, 0).by(u64::MAX)));
+    let mut read = |len: usize| {
+        let mut out = vec![99; len];
+        (model.step(&Call::taken(len), &mut out, &mut []), out)
+    };
+    let mut counters = [0; POSTERS];
+    (counters[0], counters[3], counters[15]) = (1, 2, 1);
+    counted == [Answer::Present(false), Answer::Present(true), Answer::Count(2), Answer::Present(true)]
+        && adding.len() == 6
+        && refused
+        && others == [Answer::Popped(7, 2, false), Answer::Done]
+        && [0, 3, 15, 16].iter().all(|&len| read(len) == (Answer::Count(len as u64), counters[..len].to_vec()))
+        && read(18) == (Answer::Count(16), [&counters[..], &[99, 99]].concat())
+}
+
 fn published_hashes() -> bool {
     fnv(b"") == 0xcbf29ce484222325 && fnv(b"a") == 0xaf63dc4c8601ec8c && fnv(b"foobar") == 0x85944171f73967e8
 }
 
 pub fn sample() -> Vec<Call> {
     vec![
-        Call::new(Op::Append, 7, 10),
+        Call::new(Op::Append, 7, 10).by(3),
         Call::new(Op::Append, 9, 20),
         Call::new(Op::Append, 7, 11),
-        Call::lending(Op::InsertAll, 7, 12, 3),
+        Call::lending(Op::InsertAll, 7, 12, 3).by(3),
         Call::iter(3, 4),
         Call::lending(Op::Keys, 0, 0, 1),
         Call::new(Op::PopBack, 0, 0),
         Call::retain(vec![0]),
-        Call::new(Op::Taken, 0, 0),
+        Call::taken(5),
     ]
 }
 
@@ -154,20 +183,22 @@ fn tapes_decode() -> bool {
         Answer::Refused(3),
         Answer::Popped(7, 12, true),
         Answer::Count(0),
-        Answer::Count(4),
+        Answer::Count(5),
     ];
     let untouched = Tape::of(HIGHEST, &list);
     same && ran == Ok(due.len() as u64)
         && tape.answers == due.map(words).concat()
         && due.iter().all(|&answer| answer_of(&words(answer)) == Some(answer))
         && tape.outs[..5] == [10, 11, untouched.outs[2], 9, 7]
-        && tape.outs[5..] == untouched.outs[5..]
+        && tape.outs[5..7] == untouched.outs[5..7]
+        && tape.outs[7..] == [2, 0, 0, 2, 0]
         && tape.outs2[..2] == [20, 12]
         && tape.outs2[2..] == untouched.outs2[2..]
 }
 
 // Tapes that break off: by a part of a call, a call that there is none of, slices or marks that are not there or that the
-// call has no use for, and too few places for answers.
+// call has no use for, and too few places for answers. And tapes that do not: with more than is needed, and with a poster
+// where the call has no use for one.
 pub fn odd_tapes() -> Vec<Tape> {
     let whole = Tape::of(HIGHEST, &sample());
     let changed = |at: usize, number: u64| {
@@ -176,7 +207,7 @@ pub fn odd_tapes() -> Vec<Tape> {
         tape
     };
     let mut part = whole.clone();
-    part.calls.truncate(6 * 7 + 5);
+    part.calls.truncate(WIDTH * 7 + WIDTH - 1);
     let mut few_answers = whole.clone();
     few_answers.answers.truncate(4 * 7 + 3);
     let mut few_marks = whole.clone();
@@ -196,19 +227,20 @@ pub fn odd_tapes() -> Vec<Tape> {
         few_marks,
         few_outs,
         few_outs2,
-        changed(6 * 6, 24),
-        changed(6 * 6, u64::MAX),
-        changed(6 * 6 + 3, 1),
-        changed(6 * 6 + 4, 1),
-        changed(6 * 6 + 5, 1),
-        changed(6 * 4 + 4, u64::MAX),
+        changed(WIDTH * 6, 24),
+        changed(WIDTH * 6, u64::MAX),
+        changed(WIDTH * 6 + 4, 1),
+        changed(WIDTH * 6 + 5, 1),
+        changed(WIDTH * 6 + 6, 1),
+        changed(WIDTH * 4 + 5, u64::MAX),
         longer,
+        changed(WIDTH * 6 + 1, u64::MAX),
     ]
 }
 
 fn odd_tapes_end() -> bool {
     let lengths: Vec<usize> = odd_tapes().iter().map(|tape| tape.decode().len()).collect();
-    lengths == [7, 7, 7, 5, 4, 6, 6, 6, 6, 6, 4, 9]
+    lengths == [7, 7, 7, 5, 4, 6, 6, 6, 6, 6, 4, 9, 9]
 }
 
 // Over random members and marks: the passes together strike what the marks say, and none strikes neighbours.
@@ -298,7 +330,7 @@ fn images_by_hand() -> bool {
 pub type Step = fn(&mut Model, &Call, &mut [u64], &mut [u64]) -> Answer;
 
 // The model with one fault each.
-const WRONG: [(&str, Step); 14] = [
+const WRONG: [(&str, Step); 22] = [
     ("wrong: insert_all moves its member to the back", |model, call, out, out2| {
         let answer = model.step(call, out, out2);
         if call.op == Op::InsertAll && !matches!(answer, Answer::Refused(_)) {
@@ -320,7 +352,7 @@ const WRONG: [(&str, Step); 14] = [
     ("wrong: a refused append counts for T", |model, call, out, out2| {
         let answer = model.step(call, out, out2);
         if call.op == Op::Append && answer == Answer::Refused(1) {
-            model.taken += 1;
+            model.taken[call.poster as usize] += 1;
         }
         answer
     }),
@@ -374,6 +406,48 @@ const WRONG: [(&str, Step); 14] = [
     }),
     ("wrong: pack_to is held to the highest limits", |model, call, out, out2| {
         within(if call.op == Op::PackTo { HIGHEST } else { model.limits }, model, call, out, out2)
+    }),
+    ("wrong: all rounds are counted for poster 0", |model, call, out, out2| {
+        let by_0 = call.poster < POSTERS as u64;
+        model.step(&Call { poster: if by_0 { 0 } else { call.poster }, ..call.clone() }, out, out2)
+    }),
+    ("wrong: posters are taken modulo 16", |model, call, out, out2| {
+        model.step(&call.clone().by(call.poster % POSTERS as u64), out, out2)
+    }),
+    ("wrong: the poster is looked at after the member", |model, call, out, out2| match model.refusal_by_lists(call) {
+        Some(number @ (9 | 10)) => Answer::Refused(number),
+        _ => model.step(call, out, out2),
+    }),
+    ("wrong: the poster is looked at after the limits", |model, call, out, out2| match model.refusal_by_lists(call) {
+        Some(number @ (1 | 2)) => Answer::Refused(number),
+        _ => model.step(call, out, out2),
+    }),
+    ("wrong: the poster is looked at after the slice", |model, call, out, out2| match model.refusal_by_lists(call) {
+        Some(3) => Answer::Refused(3),
+        _ => model.step(call, out, out2),
+    }),
+    ("wrong: a pop is refused for its poster", |model, call, out, out2| {
+        let refused = call.op == Op::PopFront && call.poster >= POSTERS as u64;
+        if refused {
+            Answer::Refused(16)
+        } else {
+            model.step(call, out, out2)
+        }
+    }),
+    ("wrong: clear sets T's counters to 0", |model, call, out, out2| {
+        let answer = model.step(call, out, out2);
+        if call.op == Op::Clear {
+            model.taken = [0; POSTERS];
+        }
+        answer
+    }),
+    ("wrong: T is refused where its slice is short", |model, call, out, out2| {
+        let refused = call.op == Op::Taken && call.out < POSTERS;
+        if refused {
+            Answer::Refused(3)
+        } else {
+            model.step(call, out, out2)
+        }
     }),
     ("wrong: clear forgets the limits", |model, call, out, out2| {
         let answer = model.step(call, out, out2);

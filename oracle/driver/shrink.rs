@@ -1,4 +1,4 @@
-// Makes a failing list smaller by dropping calls, marks and places of slices.
+// Makes a failing list smaller by dropping calls, marks, places of slices and posters.
 
 use crate::compare::Difference;
 use crate::model::{Call, Limits};
@@ -55,7 +55,7 @@ fn with_a_narrower_call(list: &[Call], fails: &impl Fn(&[Call]) -> Option<Differ
     None
 }
 
-// The call without one of its marks, or with shorter slices.
+// The call without one of its marks, with shorter slices, or by poster 0.
 fn narrower(call: &Call) -> Vec<Call> {
     let mut calls = Vec::new();
     for mark in 0..call.marks.len() {
@@ -70,6 +70,9 @@ fn narrower(call: &Call) -> Vec<Call> {
     }
     if call.out2 > 0 {
         calls.push(Call { out2: call.out2 - 1, ..call.clone() });
+    }
+    if call.poster > 0 {
+        calls.push(call.clone().by(0));
     }
     calls
 }
