@@ -18,14 +18,14 @@ module _ (a : Arrays) where
       → arrays ks ls nk pk (a .values) (a .«key_index») (a .«next_value») (a .«previous_value») ni pi t ms (a .rounds) (a .taken) ≡ withMember a k p
   member-stored k p x ms nk pk e ks ls ni pi t = rw (t, pi, ni, ls, ks, e, pk, nk, ms, x)
 
-  pub round-stored : (poster key v : ℕ) {x e n m : ℕ} {rs nv pv ni pi vs ki ls t : List ℕ}
+  pub round-stored : (poster key v : ℕ) {x e : ℕ} {rs nv pv ni pi vs ki ls t : List ℕ}
       → x ≡ spot (a .rounds) → rs ≡ taking (a .«next_value») (a .rounds) → e ≡ baseOf key
       → nv ≡ nextBack (a .«next_value») (a .«previous_value») 1024 x → pv ≡ previousBack (a .«previous_value») 1024 x
       → ni ≡ nextBack (a .«next_index») (a .«previous_index») e x → pi ≡ previousBack (a .«previous_index») e x
-      → n ≡ at (a .lengths) key → m ≡ up n → vs ≡ set (a .values) x v → ki ≡ set (a .«key_index») x key → ls ≡ set (a .lengths) key m
+      → vs ≡ set (a .values) x v → ki ≡ set (a .«key_index») x key → ls ≡ set (a .lengths) key (up (at (a .lengths) key))
       → t ≡ counting poster (a .taken)
       → arrays (a .keys) ls (a .«next_key») (a .«previous_key») vs ki nv pv ni pi (a .index) (a .members) rs t ≡ withRound a poster key v
-  round-stored poster key v x rs e nv pv ni pi n m vs ki ls t = rw (t, ls, ki, vs, m, n, pi, ni, pv, nv, e, rs, x)
+  round-stored poster key v x rs e nv pv ni pi vs ki ls t = rw (t, ls, ki, vs, pi, ni, pv, nv, e, rs, x)
 
 module _ (a : Arrays) (x : ℕ) where
   pub round-struck : {key n m : ℕ} {nv₁ nv pv rs ni pi ls : List ℕ}

@@ -17,7 +17,8 @@ use multimap::Values;
 ghost use mathlib.Core.Path.{_≡_};
 ghost use Prim.Native.Nat.{_+_, min};
 ghost use Rattle.steps.specs.State.{maxTaken, counting};
-ghost use Rattle.links.specs.Stores.{spot};
+ghost use lib.ListN.{set};
+ghost use Rattle.links.specs.Stores.{at, up, spot};
 ghost use Rattle.multimap.specs.Arrays.{Arrays};
 ghost use Rattle.multimap.specs.Lent.{lent, left};
 ghost use Rattle.multimap.specs.Changes.{withMember, withRound, withoutRound, Parted, Left};
@@ -65,11 +66,9 @@ pub fn add(
     let cell = multimap::base(key);
     links::link(next_value, previous_value, ROUNDS, x);
     links::link(next_index, previous_index, cell, x);
-    let n = links::get(lengths, k);
-    let longer = links::one_more(n);
     links::put_wide(values, x, v);
     links::put(key_index, x, k);
-    links::put(lengths, k, longer);
+    lengthen(lengths, k);
     count(taken, poster);
 }
 
@@ -143,6 +142,17 @@ pub fn leave(
         next_index, previous_index, index, members, rounds, taken, key,
     );
     true
+}
+
+// Counts one more round of the member place.
+fn lengthen(lengths: &mut [u16], key: u16)
+    ensures { λ _. ⌜ now (lengths .exit) ≡ set (now (lengths .entry)) key (up (at (now (lengths .entry)) key)) ⌝ }
+{
+    let p = key as usize;
+    if p < lengths.len() {
+        let n = lengths[p];
+        lengths[p] = links::one_more(n);
+    }
 }
 
 // Counts one more round of the poster.

@@ -23,20 +23,14 @@ link-requires c κs = search needs
 link-requires-2 : tie.Need-link-requires-2
 link-requires-2 c κs = search needs
 
-get-requires : tie.Need-get-requires
-get-requires c κs = search needs
-
-one-more-requires : tie.Need-one-more-requires
-one-more-requires c κs = search needs
-
 put-wide-requires : tie.Need-put-wide-requires
 put-wide-requires c κs = search needs
 
 put-requires : tie.Need-put-requires
 put-requires c κs = search needs
 
-put-requires-2 : tie.Need-put-requires-2
-put-requires-2 c κs = search needs
+lengthen-requires : tie.Need-lengthen-requires
+lengthen-requires c κs = search needs
 
 count-requires : tie.Need-count-requires
 count-requires c κs = search needs
@@ -46,16 +40,14 @@ returns c =
     let lengths = c .before .before in
     let owner = lengths .before .before in
     let value = owner .before .before in
-    let longer = value .before .before in
-    let length = longer .before in
-    let chain = length .before .before .before in
+    let chain = value .before .before in
     let list = chain .before .before .before in
     let cell = list .before .before .before in
     let place = cell .before in
     let s = place .before .before .before .before in
-    round-stored (given s) (s .args .poster) (s .args .key .0) (s .args .v) (place .take .ensures .0) (place .take .ensures .1) (cell .base .ensures)
-    (list .link .ensures .0) (list .link .ensures .1) (chain .link2 .ensures .0) (chain .link2 .ensures .1) (length .get .ensures)
-    (longer .one-more .ensures) (value .put-wide .ensures) (owner .put .ensures) (lengths .put2 .ensures) (c .count .ensures)
+    round-stored (given s) (s .args .poster) (s .args .key .0) (s .args .v) (place .take .ensures .0) (place .take .ensures .1)
+    (cell .base .ensures) (list .link .ensures .0) (list .link .ensures .1) (chain .link2 .ensures .0) (chain .link2 .ensures .1)
+    (value .put-wide .ensures) (owner .put .ensures) (lengths .lengthen .ensures) (c .count .ensures)
 
 pub add-spec : {M : Type 1} → statement M
 add-spec =
@@ -65,10 +57,8 @@ add-spec =
     base-requires
     link-requires
     link-requires-2
-    get-requires
-    one-more-requires
     put-wide-requires
     put-requires
-    put-requires-2
+    lengthen-requires
     count-requires
     returns)
