@@ -1,10 +1,13 @@
 // The call that adds a round, in place, and the part of it that other calls have too.
+
+#![tactic(auto)]
+
 ghost use Rattle.std.specs.Prelude.{◌≡◌, []};
 ghost use Rattle.answers.specs.Answers.{answer_of};
 ghost use Rattle.steps.specs.Call as C;
 ghost use Rattle.steps.specs.Told.{Told};
 ghost use Rattle.multimap.specs.Arrays.{Arrays};
-ghost use Rattle.multimap.specs.Lent.{lent, left};
+ghost use Rattle.multimap.specs.Lent.{given, lent, left};
 ghost use Rattle.multimap.specs.WellLinked.{WellLinked, linked};
 ghost use Rattle.adding.specs.Admitted.{Admitted};
 
@@ -15,19 +18,16 @@ use multimap::{
 };
 
 // Adds the round v of the member k at the back, for the poster; a new member joins at the back. The answer is whether k was present.
-#[unsafe(no_mangle)]
 #[rattlefmt::skip]
-pub extern "C" fn om_append(
+pub fn om_append(
     keys: &mut Keys, lengths: &mut Lengths, next_key: &mut KeyLinks, previous_key: &mut KeyLinks,
     values: &mut Values, key_index: &mut KeyIndex, next_value: &mut ValueLinks, previous_value: &mut ValueLinks,
     next_index: &mut IndexLinks, previous_index: &mut IndexLinks, index: &mut Index,
     members: &mut Counts, rounds: &mut Counts, taken: &mut Taken,
     poster: u64, k: u64, v: u64, answer: &mut [u64; 4],
 )
-    ghost g: { Arrays }
-    requires taken_value { lent keys lengths next_key previous_key values key_index next_value previous_value next_index previous_index index members rounds taken ≡ g }
-    requires well_linked { WellLinked g }
-    ensures { Told linked (C.append poster k v) g (left keys lengths next_key previous_key values key_index next_value previous_value next_index previous_index index members rounds taken) [] [] answer.new }
+    requires { WellLinked (lent keys lengths next_key previous_key values key_index next_value previous_value next_index previous_index index members rounds taken) }
+    ensures { let g : Arrays = given keys lengths next_key previous_key values key_index next_value previous_value next_index previous_index index members rounds taken in Told linked (C.append poster k v) g (left keys lengths next_key previous_key values key_index next_value previous_value next_index previous_index index members rounds taken) [] [] answer.new }
 {
     if multimap::no_poster(poster) {
         answers::tell(answer, Answer::Refused(16));
@@ -68,9 +68,7 @@ pub fn admit(
     members: &mut Counts, rounds: &mut Counts, taken: &mut Taken,
     poster: u64, k: u64, v: u64, at: usize, welcome: Answer, answer: &mut [u64; 4],
 )
-    ghost g: { Arrays }
-    requires { lent keys lengths next_key previous_key values key_index next_value previous_value next_index previous_index index members rounds taken ≡ g }
-    ensures { Admitted g poster k v at (answer_of welcome) (left keys lengths next_key previous_key values key_index next_value previous_value next_index previous_index index members rounds taken) answer.new }
+    ensures { let g : Arrays = given keys lengths next_key previous_key values key_index next_value previous_value next_index previous_index index members rounds taken in Admitted g poster k v at (answer_of welcome) (left keys lengths next_key previous_key values key_index next_value previous_value next_index previous_index index members rounds taken) answer.new }
 {
     let held = rounds[0];
     let most = rounds[3];

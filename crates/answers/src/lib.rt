@@ -1,4 +1,7 @@
 // The answer of every call, and its four numbers.
+
+#![tactic(auto)]
+
 ghost use Rattle.std.specs.Prelude.{◌≡◌, get_or};
 ghost use Rattle.steps.specs.Coded.{bit as bit_of, coded, decoded};
 ghost use Rattle.answers.specs.Answers.{answer_of};

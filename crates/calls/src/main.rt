@@ -1,5 +1,8 @@
 // The calls program (document 01, module 8): it reads lines from standard input and prints an answer for each, until the input ends. What is
 // printed is proved of crate `lines`; here bytes are read, handed over and written.
+
+#![tactic(auto)]
+
 ghost use Rattle.std.specs.Prelude.{◌≤◌, ◌≡◌, length};
 ghost use Rattle.multimap.specs.Arrays.{Arrays};
 ghost use Rattle.multimap.specs.Lent.{lent, left};
@@ -56,9 +59,7 @@ fn answer_input(
     next_index: &mut IndexLinks, previous_index: &mut IndexLinks, index: &mut Index,
     members: &mut Counts, rounds: &mut Counts, taken: &mut Taken,
 )
-    ghost g: { Arrays }
-    requires taken_value { lent keys lengths next_key previous_key values key_index next_value previous_value next_index previous_index index members rounds taken ≡ g }
-    requires well_linked { WellLinked g }
+    requires { WellLinked (lent keys lengths next_key previous_key values key_index next_value previous_value next_index previous_index index members rounds taken) }
 {
     let mut input = io::large_buffer();
     let mut out = io::large_buffer();
@@ -110,9 +111,7 @@ fn answer_all(
     members: &mut Counts, rounds: &mut Counts, taken: &mut Taken,
     chunk: &[u8], line: &mut [u8; 1101], held: usize, out: &mut [u8],
 ) -> Served
-    ghost g: { Arrays }
-    requires taken_value { lent keys lengths next_key previous_key values key_index next_value previous_value next_index previous_index index members rounds taken ≡ g }
-    requires well_linked { WellLinked g × Roomy out.old }
+    requires { WellLinked (lent keys lengths next_key previous_key values key_index next_value previous_value next_index previous_index index members rounds taken) × Roomy out.old }
     ensures { WellLinked (left keys lengths next_key previous_key values key_index next_value previous_value next_index previous_index index members rounds taken) }
 {
     let mut kept = held;

@@ -1,10 +1,13 @@
 // The four changes of the map, in place: a member joins, a round is added, a round leaves, a member leaves. Each of the map's arrays is lent, and
 // no copy of the map is made. No function has a premise on what the arrays hold: a place past the end of an array changes nothing there.
+
+#![tactic(auto)]
+
 ghost use Rattle.std.specs.Prelude.{◌≡◌, ◌+◌, min, set};
 ghost use Rattle.steps.specs.State.{max_taken, counting};
 ghost use Rattle.links.specs.Stores.{at, up, spot};
 ghost use Rattle.multimap.specs.Arrays.{Arrays};
-ghost use Rattle.multimap.specs.Lent.{lent, left};
+ghost use Rattle.multimap.specs.Lent.{given, left};
 ghost use Rattle.multimap.specs.Changes.{with_member, with_round, without_round, Parted, Left};
 
 use index::KeyPlace;
@@ -22,9 +25,7 @@ pub fn join(
     members: &mut Counts, rounds: &mut Counts, taken: &mut Taken,
     k: u64, at: usize,
 ) -> KeyPlace
-    ghost g: { Arrays }
-    requires { lent keys lengths next_key previous_key values key_index next_value previous_value next_index previous_index index members rounds taken ≡ g }
-    ensures { (result.0 ≡ spot g.members) × (left keys lengths next_key previous_key values key_index next_value previous_value next_index previous_index index members rounds taken ≡ with_member g k at) }
+    ensures { let g : Arrays = given keys lengths next_key previous_key values key_index next_value previous_value next_index previous_index index members rounds taken in (result.0 ≡ spot g.members) × (left keys lengths next_key previous_key values key_index next_value previous_value next_index previous_index index members rounds taken ≡ with_member g k at) }
 {
     let x = links::take(next_key, members);
     let key = KeyPlace(x);
@@ -47,9 +48,7 @@ pub fn add(
     members: &mut Counts, rounds: &mut Counts, taken: &mut Taken,
     poster: u64, key: KeyPlace, v: u64,
 )
-    ghost g: { Arrays }
-    requires { lent keys lengths next_key previous_key values key_index next_value previous_value next_index previous_index index members rounds taken ≡ g }
-    ensures { left keys lengths next_key previous_key values key_index next_value previous_value next_index previous_index index members rounds taken ≡ with_round g poster key.0 v }
+    ensures { let g : Arrays = given keys lengths next_key previous_key values key_index next_value previous_value next_index previous_index index members rounds taken in left keys lengths next_key previous_key values key_index next_value previous_value next_index previous_index index members rounds taken ≡ with_round g poster key.0 v }
 {
     let k = key.0;
     let x = links::take(next_value, rounds);
@@ -71,9 +70,7 @@ pub fn strike(
     members: &mut Counts, rounds: &mut Counts, taken: &mut Taken,
     x: ValuePlace,
 )
-    ghost g: { Arrays }
-    requires { lent keys lengths next_key previous_key values key_index next_value previous_value next_index previous_index index members rounds taken ≡ g }
-    ensures { left keys lengths next_key previous_key values key_index next_value previous_value next_index previous_index index members rounds taken ≡ without_round g x.0 }
+    ensures { let g : Arrays = given keys lengths next_key previous_key values key_index next_value previous_value next_index previous_index index members rounds taken in left keys lengths next_key previous_key values key_index next_value previous_value next_index previous_index index members rounds taken ≡ without_round g x.0 }
 {
     let p = x.0;
     links::unlink(next_value, previous_value, p);
@@ -94,9 +91,7 @@ pub fn part(
     members: &mut Counts, rounds: &mut Counts, taken: &mut Taken,
     key: KeyPlace,
 )
-    ghost g: { Arrays }
-    requires { lent keys lengths next_key previous_key values key_index next_value previous_value next_index previous_index index members rounds taken ≡ g }
-    ensures { Parted g key.0 (left keys lengths next_key previous_key values key_index next_value previous_value next_index previous_index index members rounds taken) }
+    ensures { let g : Arrays = given keys lengths next_key previous_key values key_index next_value previous_value next_index previous_index index members rounds taken in Parted g key.0 (left keys lengths next_key previous_key values key_index next_value previous_value next_index previous_index index members rounds taken) }
 {
     let k = key.0;
     let member = multimap::member(keys, key);
@@ -114,9 +109,7 @@ pub fn leave(
     members: &mut Counts, rounds: &mut Counts, taken: &mut Taken,
     x: ValuePlace,
 ) -> bool
-    ghost g: { Arrays }
-    requires { lent keys lengths next_key previous_key values key_index next_value previous_value next_index previous_index index members rounds taken ≡ g }
-    ensures { Left g x.0 result (left keys lengths next_key previous_key values key_index next_value previous_value next_index previous_index index members rounds taken) }
+    ensures { let g : Arrays = given keys lengths next_key previous_key values key_index next_value previous_value next_index previous_index index members rounds taken in Left g x.0 result (left keys lengths next_key previous_key values key_index next_value previous_value next_index previous_index index members rounds taken) }
 {
     let key = multimap::owner(key_index, x);
     let n = multimap::size(lengths, key);

@@ -1,4 +1,7 @@
 // A walk along links that copies what it meets to a lent slice.
+
+#![tactic(auto)]
+
 ghost use Rattle.std.specs.Prelude.{◌≡◌};
 ghost use Rattle.answers.specs.Answers.{answer_of};
 ghost use Rattle.steps.specs.Step.{write};

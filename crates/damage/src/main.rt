@@ -1,4 +1,7 @@
 // Damages a small map one place at a time and prints what the check says of each.
+
+#![tactic(auto)]
+
 ghost use Rattle.multimap.specs.Lent.{left};
 ghost use Rattle.multimap.specs.WellLinked.{WellLinked};
 

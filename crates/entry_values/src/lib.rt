@@ -1,6 +1,9 @@
 // The rounds of one record, given from either end (document 01, module 5): a struct that holds the filled part of a slice and two ends,
 // and thin functions over it. The borrow checker covers no function over a struct that holds a reference, so each of these is proved
 // by hand and leaves the work to a function of a slice and numbers.
+
+#![tactic(auto)]
+
 ghost use Rattle.std.specs.Prelude.{◌≡◌, true, false, length, get_or, min, ◌+◌, ◌<◌, ◌^◌};
 ghost use Rattle.std.proofs.lemmas.List.Edits.{sets};
 ghost use Rattle.entry_values.specs.Got.{got_of};

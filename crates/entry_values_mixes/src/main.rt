@@ -1,5 +1,8 @@
 // Every mix of seven calls of `next` and `next_back` on one reader, of a slice of five rounds of which the first 0, 1, .. 5 are filled, and
 // with a count above the slice's length. A line for each mix: the count, and each call, f for `next` and b for `next_back`, with its answer.
+
+#![tactic(auto)]
+
 use libc::STDOUT_FILENO;
 
 fn main() {

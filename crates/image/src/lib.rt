@@ -1,5 +1,8 @@
 // The image of a map (document 01, module 7), and its writing: sizes first, n rounds and m members in four bytes each, then n members and n rounds
 // in eight bytes each; every number lowest byte first. No exported function has a premise.
+
+#![tactic(auto)]
+
 ghost use Rattle.std.specs.Prelude.{◌≡◌, ◌+◌, ◌*◌, ◌≤◌, min, length};
 ghost use Rattle.std.proofs.lemmas.List.Edits.{sets};
 ghost use Rattle.fnv.specs.Fnv.{bytes};
@@ -15,9 +18,8 @@ use answers::Answer;
 use multimap::{Counts, KeyIndex, Keys, ROUNDS, ValueLinks, ValuePlace, Values};
 
 // Writes the image of the map to the front of `out`: of every well-linked map that has the arrays lent.
-#[unsafe(no_mangle)]
 #[rattlefmt::skip]
-pub extern "C" fn om_write_image<'a>(
+pub fn om_write_image<'a>(
     keys: &'a Keys, values: &'a Values, key_index: &'a KeyIndex, next_value: &'a ValueLinks, members: &'a Counts, rounds: &'a Counts,
     out: &mut [u8], answer: &mut [u64; 4],
 )

@@ -1,6 +1,9 @@
 // Reads images from standard input, each after six bytes that say how long it is and into which limits of members and of rounds it is read, two
 // bytes each, lowest first. A line for each: a refusal's number; or P, K and T. Then the limits of the map that is left; and, where it was not
 // refused, how long the map's own image is, and how many of its bytes, and of those past it, are not as they should be.
+
+#![tactic(auto)]
+
 use answers::Answer;
 use libc::{STDIN_FILENO, STDOUT_FILENO};
 use multimap::{Counts, KeyIndex, KeyLinks, Keys, Taken, ValueLinks, Values};

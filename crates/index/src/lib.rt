@@ -1,5 +1,8 @@
 // The index over the members (document 01, module 1): open addressing in 512 places, with no marks left by removal.
 // A place holds a member place, which is below KEYS, or EMPTY.
+
+#![tactic(auto)]
+
 ghost use Rattle.std.specs.Prelude.{◌≡◌, List, ℕ, ◌<◌, set};
 ghost use Rattle.index.specs.Table.{empty_index, Holds, dist, home};
 ghost use Rattle.index.specs.Removal.{Closed, Removed};

@@ -1,5 +1,8 @@
 // Prints hashes of some member numbers; then members whose places run across the end of the index, some of which leave; then 256
 // members, of which every third leaves. tools/index_removals.py says what it must print.
+
+#![tactic(auto)]
+
 use index::{Found, KeyPlace};
 
 fn main() {

@@ -1,9 +1,12 @@
 // The call that puts a round in the place of a member's record, in place, and the parts of it that others have too.
+
+#![tactic(auto)]
+
 ghost use Rattle.std.specs.Prelude.{◌≡◌, []};
 ghost use Rattle.steps.specs.Call as C;
 ghost use Rattle.steps.specs.Told.{Told};
 ghost use Rattle.multimap.specs.Arrays.{Arrays};
-ghost use Rattle.multimap.specs.Lent.{lent, left};
+ghost use Rattle.multimap.specs.Lent.{given, lent, left};
 ghost use Rattle.multimap.specs.WellLinked.{WellLinked, linked};
 ghost use Rattle.inserting.specs.Records.{without_record, with_only};
 
@@ -14,19 +17,16 @@ use multimap::{
 };
 
 // Puts the round v in the place of the member's record; a new member joins at the back. The answer is the old record's first round, or none.
-#[unsafe(no_mangle)]
 #[rattlefmt::skip]
-pub extern "C" fn om_insert(
+pub fn om_insert(
     keys: &mut Keys, lengths: &mut Lengths, next_key: &mut KeyLinks, previous_key: &mut KeyLinks,
     values: &mut Values, key_index: &mut KeyIndex, next_value: &mut ValueLinks, previous_value: &mut ValueLinks,
     next_index: &mut IndexLinks, previous_index: &mut IndexLinks, index: &mut Index,
     members: &mut Counts, rounds: &mut Counts, taken: &mut Taken,
     poster: u64, k: u64, v: u64, answer: &mut [u64; 4],
 )
-    ghost g: { Arrays }
-    requires taken_value { lent keys lengths next_key previous_key values key_index next_value previous_value next_index previous_index index members rounds taken ≡ g }
-    requires well_linked { WellLinked g }
-    ensures { Told linked (C.insert poster k v) g (left keys lengths next_key previous_key values key_index next_value previous_value next_index previous_index index members rounds taken) [] [] answer.new }
+    requires { WellLinked (lent keys lengths next_key previous_key values key_index next_value previous_value next_index previous_index index members rounds taken) }
+    ensures { let g : Arrays = given keys lengths next_key previous_key values key_index next_value previous_value next_index previous_index index members rounds taken in Told linked (C.insert poster k v) g (left keys lengths next_key previous_key values key_index next_value previous_value next_index previous_index index members rounds taken) [] [] answer.new }
 {
     if multimap::no_poster(poster) {
         answers::tell(answer, Answer::Refused(16));
@@ -63,9 +63,7 @@ pub fn replace(
     members: &mut Counts, rounds: &mut Counts, taken: &mut Taken,
     poster: u64, key: KeyPlace, v: u64,
 )
-    ghost g: { Arrays }
-    requires { lent keys lengths next_key previous_key values key_index next_value previous_value next_index previous_index index members rounds taken ≡ g }
-    ensures { left keys lengths next_key previous_key values key_index next_value previous_value next_index previous_index index members rounds taken ≡ with_only g poster key.0 v }
+    ensures { let g : Arrays = given keys lengths next_key previous_key values key_index next_value previous_value next_index previous_index index members rounds taken in left keys lengths next_key previous_key values key_index next_value previous_value next_index previous_index index members rounds taken ≡ with_only g poster key.0 v }
 {
     empty(
         keys, lengths, next_key, previous_key, values, key_index, next_value, previous_value,
@@ -86,9 +84,7 @@ pub fn empty(
     members: &mut Counts, rounds: &mut Counts, taken: &mut Taken,
     key: KeyPlace,
 )
-    ghost g: { Arrays }
-    requires { lent keys lengths next_key previous_key values key_index next_value previous_value next_index previous_index index members rounds taken ≡ g }
-    ensures { left keys lengths next_key previous_key values key_index next_value previous_value next_index previous_index index members rounds taken ≡ without_record g key.0 }
+    ensures { let g : Arrays = given keys lengths next_key previous_key values key_index next_value previous_value next_index previous_index index members rounds taken in left keys lengths next_key previous_key values key_index next_value previous_value next_index previous_index index members rounds taken ≡ without_record g key.0 }
 {
     let turns = multimap::size(lengths, key);
     let mut x = multimap::head(next_index, key);

@@ -1,8 +1,11 @@
 // The call of each kind of line, in place, and its answer printed to the front of `out`; each answers how many bytes it printed. The out slices
 // that are lent to a call are as long as any result.
+
+#![tactic(auto)]
+
 ghost use Rattle.std.specs.Prelude.{◌≤◌, ◌≡◌, map, length};
 ghost use Rattle.multimap.specs.Arrays.{Arrays};
-ghost use Rattle.multimap.specs.Lent.{lent, left};
+ghost use Rattle.multimap.specs.Lent.{given, lent, left};
 ghost use Rattle.multimap.specs.WellLinked.{WellLinked};
 ghost use Rattle.parsing.specs.Line as Line;
 ghost use Rattle.printing.specs.Put.{Put};
@@ -23,10 +26,8 @@ pub fn adds(
     members: &mut Counts, rounds: &mut Counts, taken: &mut Taken,
     k: u64, v: u64, out: &mut [u8],
 ) -> usize
-    ghost g: { Arrays }
-    requires taken_value { lent keys lengths next_key previous_key values key_index next_value previous_value next_index previous_index index members rounds taken ≡ g }
-    requires well_linked { WellLinked g }
-    ensures { Replied (Line.adds k v) g out.old out.new (left keys lengths next_key previous_key values key_index next_value previous_value next_index previous_index index members rounds taken) result }
+    requires { WellLinked (lent keys lengths next_key previous_key values key_index next_value previous_value next_index previous_index index members rounds taken) }
+    ensures { let g : Arrays = given keys lengths next_key previous_key values key_index next_value previous_value next_index previous_index index members rounds taken in Replied (Line.adds k v) g out.old out.new (left keys lengths next_key previous_key values key_index next_value previous_value next_index previous_index index members rounds taken) result }
 {
     let mut told = [0u64; 4];
     adding::om_append(
@@ -45,10 +46,8 @@ pub fn inserts(
     members: &mut Counts, rounds: &mut Counts, taken: &mut Taken,
     k: u64, v: u64, out: &mut [u8],
 ) -> usize
-    ghost g: { Arrays }
-    requires taken_value { lent keys lengths next_key previous_key values key_index next_value previous_value next_index previous_index index members rounds taken ≡ g }
-    requires well_linked { WellLinked g }
-    ensures { Replied (Line.inserts k v) g out.old out.new (left keys lengths next_key previous_key values key_index next_value previous_value next_index previous_index index members rounds taken) result }
+    requires { WellLinked (lent keys lengths next_key previous_key values key_index next_value previous_value next_index previous_index index members rounds taken) }
+    ensures { let g : Arrays = given keys lengths next_key previous_key values key_index next_value previous_value next_index previous_index index members rounds taken in Replied (Line.inserts k v) g out.old out.new (left keys lengths next_key previous_key values key_index next_value previous_value next_index previous_index index members rounds taken) result }
 {
     let mut told = [0u64; 4];
     let mut old = [0u64; 1024];
@@ -68,10 +67,8 @@ pub fn removes(
     members: &mut Counts, rounds: &mut Counts, taken: &mut Taken,
     k: u64, out: &mut [u8],
 ) -> usize
-    ghost g: { Arrays }
-    requires taken_value { lent keys lengths next_key previous_key values key_index next_value previous_value next_index previous_index index members rounds taken ≡ g }
-    requires well_linked { WellLinked g }
-    ensures { Replied (Line.removes k) g out.old out.new (left keys lengths next_key previous_key values key_index next_value previous_value next_index previous_index index members rounds taken) result }
+    requires { WellLinked (lent keys lengths next_key previous_key values key_index next_value previous_value next_index previous_index index members rounds taken) }
+    ensures { let g : Arrays = given keys lengths next_key previous_key values key_index next_value previous_value next_index previous_index index members rounds taken in Replied (Line.removes k) g out.old out.new (left keys lengths next_key previous_key values key_index next_value previous_value next_index previous_index index members rounds taken) result }
 {
     let mut told = [0u64; 4];
     let mut old = [0u64; 1024];
@@ -91,10 +88,8 @@ pub fn front(
     members: &mut Counts, rounds: &mut Counts, taken: &mut Taken,
     out: &mut [u8],
 ) -> usize
-    ghost g: { Arrays }
-    requires taken_value { lent keys lengths next_key previous_key values key_index next_value previous_value next_index previous_index index members rounds taken ≡ g }
-    requires well_linked { WellLinked g }
-    ensures { Replied (Line.front) g out.old out.new (left keys lengths next_key previous_key values key_index next_value previous_value next_index previous_index index members rounds taken) result }
+    requires { WellLinked (lent keys lengths next_key previous_key values key_index next_value previous_value next_index previous_index index members rounds taken) }
+    ensures { let g : Arrays = given keys lengths next_key previous_key values key_index next_value previous_value next_index previous_index index members rounds taken in Replied (Line.front) g out.old out.new (left keys lengths next_key previous_key values key_index next_value previous_value next_index previous_index index members rounds taken) result }
 {
     let mut told = [0u64; 4];
     popping::om_pop_front(
@@ -113,10 +108,8 @@ pub fn back(
     members: &mut Counts, rounds: &mut Counts, taken: &mut Taken,
     out: &mut [u8],
 ) -> usize
-    ghost g: { Arrays }
-    requires taken_value { lent keys lengths next_key previous_key values key_index next_value previous_value next_index previous_index index members rounds taken ≡ g }
-    requires well_linked { WellLinked g }
-    ensures { Replied (Line.back) g out.old out.new (left keys lengths next_key previous_key values key_index next_value previous_value next_index previous_index index members rounds taken) result }
+    requires { WellLinked (lent keys lengths next_key previous_key values key_index next_value previous_value next_index previous_index index members rounds taken) }
+    ensures { let g : Arrays = given keys lengths next_key previous_key values key_index next_value previous_value next_index previous_index index members rounds taken in Replied (Line.back) g out.old out.new (left keys lengths next_key previous_key values key_index next_value previous_value next_index previous_index index members rounds taken) result }
 {
     let mut told = [0u64; 4];
     popping_back::om_pop_back(
@@ -136,10 +129,8 @@ pub fn keeps(
     members: &mut Counts, rounds: &mut Counts, taken: &mut Taken,
     bytes: &[u8], out: &mut [u8],
 ) -> usize
-    ghost g: { Arrays }
-    requires taken_value { lent keys lengths next_key previous_key values key_index next_value previous_value next_index previous_index index members rounds taken ≡ g }
-    requires well_linked { WellLinked g }
-    ensures { Replied (marks_line bytes.now) g out.old out.new (left keys lengths next_key previous_key values key_index next_value previous_value next_index previous_index index members rounds taken) result }
+    requires { WellLinked (lent keys lengths next_key previous_key values key_index next_value previous_value next_index previous_index index members rounds taken) }
+    ensures { let g : Arrays = given keys lengths next_key previous_key values key_index next_value previous_value next_index previous_index index members rounds taken in Replied (marks_line bytes.now) g out.old out.new (left keys lengths next_key previous_key values key_index next_value previous_value next_index previous_index index members rounds taken) result }
 {
     if MAX_LINE < bytes.len() {
         return print_bad(out);

@@ -1,7 +1,10 @@
 // The lines of an input that comes in chunks, answered on a map in place (document 01, module 8).
+
+#![tactic(auto)]
+
 ghost use Rattle.std.specs.Prelude.{◌<◌, ◌≤◌, min, ◌≡◌, length, take};
 ghost use Rattle.multimap.specs.Arrays.{Arrays};
-ghost use Rattle.multimap.specs.Lent.{lent, left};
+ghost use Rattle.multimap.specs.Lent.{given, lent, left};
 ghost use Rattle.multimap.specs.WellLinked.{WellLinked};
 ghost use Rattle.printing.specs.Said.{Roomy};
 ghost use Rattle.lines.specs.Chunk.{Chunked, AnswersChunk, AnswersRest};
@@ -29,10 +32,8 @@ pub fn answer_chunk(
     members: &mut Counts, rounds: &mut Counts, taken: &mut Taken,
     chunk: &[u8], line: &mut [u8; 1101], held: usize, out: &mut [u8],
 ) -> Progress
-    ghost g: { Arrays }
-    requires taken_value { lent keys lengths next_key previous_key values key_index next_value previous_value next_index previous_index index members rounds taken ≡ g }
-    requires well_linked { WellLinked g }
-    ensures { AnswersChunk chunk.now (take held line.old) g out.old out.new (left keys lengths next_key previous_key values key_index next_value previous_value next_index previous_index index members rounds taken) line.new result }
+    requires { WellLinked (lent keys lengths next_key previous_key values key_index next_value previous_value next_index previous_index index members rounds taken) }
+    ensures { let g : Arrays = given keys lengths next_key previous_key values key_index next_value previous_value next_index previous_index index members rounds taken in AnswersChunk chunk.now (take held line.old) g out.old out.new (left keys lengths next_key previous_key values key_index next_value previous_value next_index previous_index index members rounds taken) line.new result }
 {
     let mut used = 0;
     let mut kept = within(line, held);
@@ -63,10 +64,8 @@ pub fn answer_rest(
     members: &mut Counts, rounds: &mut Counts, taken: &mut Taken,
     line: &[u8; 1101], held: usize, out: &mut [u8],
 ) -> usize
-    ghost g: { Arrays }
-    requires taken_value { lent keys lengths next_key previous_key values key_index next_value previous_value next_index previous_index index members rounds taken ≡ g }
-    requires well_linked { WellLinked g }
-    ensures { AnswersRest (take held line.now) g out.old out.new (left keys lengths next_key previous_key values key_index next_value previous_value next_index previous_index index members rounds taken) result }
+    requires { WellLinked (lent keys lengths next_key previous_key values key_index next_value previous_value next_index previous_index index members rounds taken) }
+    ensures { let g : Arrays = given keys lengths next_key previous_key values key_index next_value previous_value next_index previous_index index members rounds taken in AnswersRest (take held line.now) g out.old out.new (left keys lengths next_key previous_key values key_index next_value previous_value next_index previous_index index members rounds taken) result }
 {
     let bytes: &[u8] = line;
     let n = within(bytes, held);
@@ -88,10 +87,8 @@ fn answer_next(
     members: &mut Counts, rounds: &mut Counts, taken: &mut Taken,
     chunk: &[u8], line: &mut [u8], held: usize, out: &mut [u8],
 ) -> Progress
-    ghost g: { Arrays }
-    requires taken_value { lent keys lengths next_key previous_key values key_index next_value previous_value next_index previous_index index members rounds taken ≡ g }
-    requires well_linked { WellLinked g × Roomy out.old × (length line.old ≡ 1101) × (0 < length chunk.now) }
-    ensures chunked { Chunked (take held line.old) (take result.eaten chunk.now) g out.old out.new (left keys lengths next_key previous_key values key_index next_value previous_value next_index previous_index index members rounds taken) result.used (take result.held line.new) }
+    requires { WellLinked (lent keys lengths next_key previous_key values key_index next_value previous_value next_index previous_index index members rounds taken) × Roomy out.old × (length line.old ≡ 1101) × (0 < length chunk.now) }
+    ensures chunked { let g : Arrays = given keys lengths next_key previous_key values key_index next_value previous_value next_index previous_index index members rounds taken in Chunked (take held line.old) (take result.eaten chunk.now) g out.old out.new (left keys lengths next_key previous_key values key_index next_value previous_value next_index previous_index index members rounds taken) result.used (take result.held line.new) }
     ensures eaten_nonzero { (0 < result.eaten) × (result.eaten ≤ length chunk.now) }
 {
     let part = parsing::take_line(chunk, line, held);

@@ -1,4 +1,7 @@
 // The linked map: one record of arrays. A list of rounds, a list of members, each member's rounds as a chain, and the index over the members.
+
+#![tactic(auto)]
+
 pub mod places;
 
 ghost use Rattle.std.specs.Prelude.{◌≡◌, ltb};

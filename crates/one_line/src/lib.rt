@@ -1,7 +1,10 @@
 // One line of the calls program (document 01, module 8) answered on a map, in place.
+
+#![tactic(auto)]
+
 ghost use Rattle.std.specs.Prelude.{◌≡◌};
 ghost use Rattle.multimap.specs.Arrays.{Arrays};
-ghost use Rattle.multimap.specs.Lent.{lent, left};
+ghost use Rattle.multimap.specs.Lent.{given, lent, left};
 ghost use Rattle.multimap.specs.WellLinked.{WellLinked};
 ghost use Rattle.parsing.specs.Line as Line;
 ghost use Rattle.parsing.specs.Told.{told as told_of};
@@ -24,10 +27,8 @@ pub fn answer_line(
     members: &mut Counts, rounds: &mut Counts, taken: &mut Taken,
     line: &[u8], out: &mut [u8],
 ) -> usize
-    ghost g: { Arrays }
-    requires taken_value { lent keys lengths next_key previous_key values key_index next_value previous_value next_index previous_index index members rounds taken ≡ g }
-    requires well_linked { WellLinked g }
-    ensures { Answers line.now g out.old out.new (left keys lengths next_key previous_key values key_index next_value previous_value next_index previous_index index members rounds taken) result }
+    requires { WellLinked (lent keys lengths next_key previous_key values key_index next_value previous_value next_index previous_index index members rounds taken) }
+    ensures { let g : Arrays = given keys lengths next_key previous_key values key_index next_value previous_value next_index previous_index index members rounds taken in Answers line.now g out.old out.new (left keys lengths next_key previous_key values key_index next_value previous_value next_index previous_index index members rounds taken) result }
 {
     if out.len() < MAX_PRINTED {
         return 0;
@@ -50,10 +51,8 @@ fn ask(
     members: &mut Counts, rounds: &mut Counts, taken: &mut Taken,
     request: Request, line: &[u8], out: &mut [u8],
 ) -> usize
-    ghost g: { Arrays }
-    requires taken_value { lent keys lengths next_key previous_key values key_index next_value previous_value next_index previous_index index members rounds taken ≡ g }
-    requires well_linked { WellLinked g × (told_of request line.now ≡ Line.line_of line.now) }
-    ensures { Replied (Line.line_of line.now) g out.old out.new (left keys lengths next_key previous_key values key_index next_value previous_value next_index previous_index index members rounds taken) result }
+    requires { WellLinked (lent keys lengths next_key previous_key values key_index next_value previous_value next_index previous_index index members rounds taken) × (told_of request line.now ≡ Line.line_of line.now) }
+    ensures { let g : Arrays = given keys lengths next_key previous_key values key_index next_value previous_value next_index previous_index index members rounds taken in Replied (Line.line_of line.now) g out.old out.new (left keys lengths next_key previous_key values key_index next_value previous_value next_index previous_index index members rounds taken) result }
 {
     match request {
         Request::Adds(k, v) => line_calls::adds(

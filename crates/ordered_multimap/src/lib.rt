@@ -1,5 +1,8 @@
 // The calls of document 01 by value: the map is one record of arrays that goes in and comes back. Every call, a read too, hands the record back beside
 // its answer. What every list of them comes to is in proofs/Demand3.antt.
+
+#![tactic(auto)]
+
 pub mod occupied_entry;
 pub mod vacant_entry;
 
@@ -204,9 +207,8 @@ pub fn taken(m: ListOrderedMultimap, out: &mut [u64; 16]) -> Reply
 
 // Makes the call with the number `op`; from 24 on that is `values_len`. The record is taken apart, the call is made in place on its arrays, and the record is
 // made anew. `answer` gets the answer's four numbers.
-#[unsafe(no_mangle)]
 #[rattlefmt::skip]
-pub extern "C" fn om_turn(
+pub fn om_turn(
     m: ListOrderedMultimap, op: u64, poster: u64, k: u64, v: u64, out: &mut [u64], out2: &mut [u64], marks: &[u8], answer: &mut [u64; 4],
 ) -> ListOrderedMultimap
     requires { WellLinked (arrays_of m) }

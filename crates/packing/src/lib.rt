@@ -1,11 +1,14 @@
 // `new` and `clear`, after which no place is in use, and `pack_to`, after which the places from 0 on are, in order. Each of the map's arrays is
 // lent and changed where it stands. No public function has a premise but that the map is well-linked, and `om_new` has none.
+
+#![tactic(auto)]
+
 ghost use Rattle.std.specs.Prelude.{◌≡◌, List, [], ℕ, ◌||◌, ltb, length};
 ghost use Rattle.steps.specs.Call as C;
 ghost use Rattle.steps.specs.State.{limit};
 ghost use Rattle.steps.specs.Told.{Told};
 ghost use Rattle.multimap.specs.Arrays.{Arrays};
-ghost use Rattle.multimap.specs.Lent.{lent, left};
+ghost use Rattle.multimap.specs.Lent.{given, lent, left};
 ghost use Rattle.multimap.specs.Making.{Made};
 ghost use Rattle.multimap.specs.Map.{at, limits_of};
 ghost use Rattle.multimap.specs.WellLinked.{WellLinked, linked};
@@ -21,8 +24,7 @@ use multimap::{
 
 // Makes the empty map with these limits, whatever the arrays hold; a refused making leaves it with both limits 0.
 #[rattlefmt::skip]
-#[unsafe(no_mangle)]
-pub extern "C" fn om_new(
+pub fn om_new(
     keys: &mut Keys, lengths: &mut Lengths, next_key: &mut KeyLinks, previous_key: &mut KeyLinks,
     values: &mut Values, key_index: &mut KeyIndex, next_value: &mut ValueLinks, previous_value: &mut ValueLinks,
     next_index: &mut IndexLinks, previous_index: &mut IndexLinks, index: &mut Index,
@@ -48,18 +50,15 @@ pub extern "C" fn om_new(
 
 // Empties the map, which stays as it is where it holds no round: then it has no member either. T stays.
 #[rattlefmt::skip]
-#[unsafe(no_mangle)]
-pub extern "C" fn om_clear(
+pub fn om_clear(
     keys: &mut Keys, lengths: &mut Lengths, next_key: &mut KeyLinks, previous_key: &mut KeyLinks,
     values: &mut Values, key_index: &mut KeyIndex, next_value: &mut ValueLinks, previous_value: &mut ValueLinks,
     next_index: &mut IndexLinks, previous_index: &mut IndexLinks, index: &mut Index,
     members: &mut Counts, rounds: &mut Counts, taken: &mut Taken,
     answer: &mut [u64; 4],
 )
-    ghost g: { Arrays }
-    requires taken_value { lent keys lengths next_key previous_key values key_index next_value previous_value next_index previous_index index members rounds taken ≡ g }
-    requires well_linked { WellLinked g }
-    ensures { Told linked C.clear g (left keys lengths next_key previous_key values key_index next_value previous_value next_index previous_index index members rounds taken) [] [] answer.new }
+    requires { WellLinked (lent keys lengths next_key previous_key values key_index next_value previous_value next_index previous_index index members rounds taken) }
+    ensures { let g : Arrays = given keys lengths next_key previous_key values key_index next_value previous_value next_index previous_index index members rounds taken in Told linked C.clear g (left keys lengths next_key previous_key values key_index next_value previous_value next_index previous_index index members rounds taken) [] [] answer.new }
 {
     let held = rounds[0];
     if held == 0 {
@@ -75,18 +74,15 @@ pub extern "C" fn om_clear(
 
 // Moves the i-th pair to the round place i, and the i-th member to the member place i.
 #[rattlefmt::skip]
-#[unsafe(no_mangle)]
-pub extern "C" fn om_pack_to(
+pub fn om_pack_to(
     keys: &mut Keys, lengths: &mut Lengths, next_key: &mut KeyLinks, previous_key: &mut KeyLinks,
     values: &mut Values, key_index: &mut KeyIndex, next_value: &mut ValueLinks, previous_value: &mut ValueLinks,
     next_index: &mut IndexLinks, previous_index: &mut IndexLinks, index: &mut Index,
     members: &mut Counts, rounds: &mut Counts, taken: &mut Taken,
     keys_minimum: u64, values_minimum: u64, answer: &mut [u64; 4],
 )
-    ghost g: { Arrays }
-    requires taken_value { lent keys lengths next_key previous_key values key_index next_value previous_value next_index previous_index index members rounds taken ≡ g }
-    requires well_linked { WellLinked g }
-    ensures { Told linked (C.pack_to keys_minimum values_minimum) g (left keys lengths next_key previous_key values key_index next_value previous_value next_index previous_index index members rounds taken) [] [] answer.new }
+    requires { WellLinked (lent keys lengths next_key previous_key values key_index next_value previous_value next_index previous_index index members rounds taken) }
+    ensures { let g : Arrays = given keys lengths next_key previous_key values key_index next_value previous_value next_index previous_index index members rounds taken in Told linked (C.pack_to keys_minimum values_minimum) g (left keys lengths next_key previous_key values key_index next_value previous_value next_index previous_index index members rounds taken) [] [] answer.new }
 {
     let few_keys = is_below(keys_minimum, members);
     let few_values = is_below(values_minimum, rounds);
@@ -170,9 +166,7 @@ fn vacate(
     next_index: &mut IndexLinks, previous_index: &mut IndexLinks, index: &mut Index,
     members: &mut Counts, rounds: &mut Counts, taken: &mut Taken,
 )
-    ghost g: { Arrays }
-    requires { lent keys lengths next_key previous_key values key_index next_value previous_value next_index previous_index index members rounds taken ≡ g }
-    ensures { left keys lengths next_key previous_key values key_index next_value previous_value next_index previous_index index members rounds taken ≡ cleared g }
+    ensures { let g : Arrays = given keys lengths next_key previous_key values key_index next_value previous_value next_index previous_index index members rounds taken in left keys lengths next_key previous_key values key_index next_value previous_value next_index previous_index index members rounds taken ≡ cleared g }
 {
     links::put(next_key, MEMBERS, MEMBERS);
     links::put(previous_key, MEMBERS, MEMBERS);
@@ -193,10 +187,8 @@ fn pack(
     next_index: &mut IndexLinks, previous_index: &mut IndexLinks, index: &mut Index,
     members: &mut Counts, rounds: &mut Counts, taken: &mut Taken,
 )
-    ghost g: { Arrays }
-    requires taken_value { lent keys lengths next_key previous_key values key_index next_value previous_value next_index previous_index index members rounds taken ≡ g }
-    requires well_linked { WellLinked g }
-    ensures { Repacked g (left keys lengths next_key previous_key values key_index next_value previous_value next_index previous_index index members rounds taken) }
+    requires { WellLinked (lent keys lengths next_key previous_key values key_index next_value previous_value next_index previous_index index members rounds taken) }
+    ensures { let g : Arrays = given keys lengths next_key previous_key values key_index next_value previous_value next_index previous_index index members rounds taken in Repacked g (left keys lengths next_key previous_key values key_index next_value previous_value next_index previous_index index members rounds taken) }
 {
     let mut numbers: Keys = [0; 256];
     let mut ranks: Lengths = [0; 256];
@@ -285,10 +277,8 @@ fn seat(
     members: &mut Counts, rounds: &mut Counts, taken: &mut Taken,
     numbers: &Keys, held: u16,
 )
-    ghost g: { Arrays }
-    requires taken_value { lent keys lengths next_key previous_key values key_index next_value previous_value next_index previous_index index members rounds taken ≡ g }
-    requires seated { Seated numbers.now (limits_of g) 0 g × Apart numbers.now held }
-    ensures { Seated numbers.now (limits_of g) held (left keys lengths next_key previous_key values key_index next_value previous_value next_index previous_index index members rounds taken) }
+    requires { let g : Arrays = lent keys lengths next_key previous_key values key_index next_value previous_value next_index previous_index index members rounds taken in Seated numbers.now (limits_of g) 0 g × Apart numbers.now held }
+    ensures { let g : Arrays = given keys lengths next_key previous_key values key_index next_value previous_value next_index previous_index index members rounds taken in Seated numbers.now (limits_of g) held (left keys lengths next_key previous_key values key_index next_value previous_value next_index previous_index index members rounds taken) }
 {
     let mut i: u16 = 0;
     while i < held {
@@ -314,10 +304,8 @@ fn fill(
     members: &mut Counts, rounds: &mut Counts, taken: &mut Taken,
     owners: &KeyIndex, scores: &Values, held: u16,
 )
-    ghost g: { Arrays }
-    requires taken_value { lent keys lengths next_key previous_key values key_index next_value previous_value next_index previous_index index members rounds taken ≡ g }
-    requires fillable { Fillable owners.now held g }
-    ensures { Filled g owners.now scores.now held (left keys lengths next_key previous_key values key_index next_value previous_value next_index previous_index index members rounds taken) }
+    requires { Fillable owners.now held (lent keys lengths next_key previous_key values key_index next_value previous_value next_index previous_index index members rounds taken) }
+    ensures { let g : Arrays = given keys lengths next_key previous_key values key_index next_value previous_value next_index previous_index index members rounds taken in Filled g owners.now scores.now held (left keys lengths next_key previous_key values key_index next_value previous_value next_index previous_index index members rounds taken) }
 {
     let mut j: u16 = 0;
     while j < held {

@@ -1,4 +1,7 @@
 // What a line of the calls program asks (document 01, module 8), by its bytes.
+
+#![tactic(auto)]
+
 ghost use Rattle.std.specs.Prelude.{◌≡◌, List, [], ◌∷◌, ℕ, min};
 ghost use Rattle.parsing.specs.Line as Line;
 ghost use Rattle.parsing.specs.Split.{gap as gap_of, Held, Took};

@@ -1,11 +1,14 @@
 // The call that takes the first round out, in place: its step of document 01 on a well-linked map; and `pop`, by which either end's round is taken
 // out. Each pop has a crate of its own so that the compiler puts `changing::leave`, of which each crate has then one call, into it.
+
+#![tactic(auto)]
+
 ghost use Rattle.std.specs.Prelude.{◌≡◌, Bool, cond, []};
 ghost use Rattle.steps.specs.Call as C;
 ghost use Rattle.steps.specs.Told.{Told};
 ghost use Rattle.links.specs.Stores.{at};
 ghost use Rattle.multimap.specs.Arrays.{Arrays};
-ghost use Rattle.multimap.specs.Lent.{lent, left};
+ghost use Rattle.multimap.specs.Lent.{given, lent, left};
 ghost use Rattle.multimap.specs.Popping.{pop_of};
 ghost use Rattle.multimap.specs.WellLinked.{WellLinked, linked};
 
@@ -17,18 +20,15 @@ use multimap::{
 
 // Takes the first round out.
 #[rattlefmt::skip]
-#[unsafe(no_mangle)]
-pub extern "C" fn om_pop_front(
+pub fn om_pop_front(
     keys: &mut Keys, lengths: &mut Lengths, next_key: &mut KeyLinks, previous_key: &mut KeyLinks,
     values: &mut Values, key_index: &mut KeyIndex, next_value: &mut ValueLinks, previous_value: &mut ValueLinks,
     next_index: &mut IndexLinks, previous_index: &mut IndexLinks, index: &mut Index,
     members: &mut Counts, rounds: &mut Counts, taken: &mut Taken,
     answer: &mut [u64; 4],
 )
-    ghost g: { Arrays }
-    requires taken_value { lent keys lengths next_key previous_key values key_index next_value previous_value next_index previous_index index members rounds taken ≡ g }
-    requires well_linked { WellLinked g }
-    ensures { Told linked C.pop_front g (left keys lengths next_key previous_key values key_index next_value previous_value next_index previous_index index members rounds taken) [] [] answer.new }
+    requires { WellLinked (lent keys lengths next_key previous_key values key_index next_value previous_value next_index previous_index index members rounds taken) }
+    ensures { let g : Arrays = given keys lengths next_key previous_key values key_index next_value previous_value next_index previous_index index members rounds taken in Told linked C.pop_front g (left keys lengths next_key previous_key values key_index next_value previous_value next_index previous_index index members rounds taken) [] [] answer.new }
 {
     let first = multimap::after(next_value, ValuePlace(ROUNDS));
     pop(
@@ -46,10 +46,8 @@ pub fn pop(
     members: &mut Counts, rounds: &mut Counts, taken: &mut Taken,
     x: ValuePlace, answer: &mut [u64; 4],
 )
-    ghost g: { Arrays }
-    requires taken_value { lent keys lengths next_key previous_key values key_index next_value previous_value next_index previous_index index members rounds taken ≡ g }
-    requires well_linked { WellLinked g }
-    ensures { (b : Bool) → x.0 ≡ cond b (at g.next_value 1024) (at g.previous_value 1024) → Told linked (pop_of b) g (left keys lengths next_key previous_key values key_index next_value previous_value next_index previous_index index members rounds taken) [] [] answer.new }
+    requires { WellLinked (lent keys lengths next_key previous_key values key_index next_value previous_value next_index previous_index index members rounds taken) }
+    ensures { let g : Arrays = given keys lengths next_key previous_key values key_index next_value previous_value next_index previous_index index members rounds taken in (b : Bool) → x.0 ≡ cond b (at g.next_value 1024) (at g.previous_value 1024) → Told linked (pop_of b) g (left keys lengths next_key previous_key values key_index next_value previous_value next_index previous_index index members rounds taken) [] [] answer.new }
 {
     let held = rounds[0];
     if held == 0 {

@@ -1,4 +1,7 @@
 // How an answer is printed: by itself, or with what a call wrote to its slices.
+
+#![tactic(auto)]
+
 mod putting;
 
 ghost use Rattle.std.specs.Prelude.{◌≤◌, min, ◌≡◌, cond, [], ◌++◌, length};

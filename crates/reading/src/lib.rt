@@ -1,5 +1,8 @@
 // The calls that only read, in place. Each is lent the arrays that it reads, and no others, and changes none of them. What they tell is the
 // step's of every well-linked map with these arrays; no function has a premise.
+
+#![tactic(auto)]
+
 ghost use Rattle.std.specs.Prelude.{◌≡◌, []};
 ghost use Rattle.steps.specs.Call as C;
 ghost use Rattle.answers.specs.Answers.{answer_of};
@@ -14,9 +17,8 @@ use multimap::{
 };
 
 // Tells the member's first round.
-#[unsafe(no_mangle)]
 #[rattlefmt::skip]
-pub extern "C" fn om_get<'a>(
+pub fn om_get<'a>(
     keys: &'a Keys, values: &'a Values, next_index: &'a IndexLinks, index: &'a Index, k: u64, answer: &mut [u64; 4],
 )
     ensures { Reads (C.get k) [] [] answer.new (λ α. (keys.now ≡ α.keys) × (values.now ≡ α.values)
@@ -33,9 +35,8 @@ pub extern "C" fn om_get<'a>(
 }
 
 // Writes the member's rounds, in order, to the front of `out`, and tells how many.
-#[unsafe(no_mangle)]
 #[rattlefmt::skip]
-pub extern "C" fn om_get_all<'a>(
+pub fn om_get_all<'a>(
     keys: &'a Keys, lengths: &'a Lengths, values: &'a Values, next_index: &'a IndexLinks, index: &'a Index,
     k: u64, out: &mut [u64], answer: &mut [u64; 4],
 )
@@ -55,9 +56,8 @@ pub extern "C" fn om_get_all<'a>(
 }
 
 // Tells the member's entry.
-#[unsafe(no_mangle)]
 #[rattlefmt::skip]
-pub extern "C" fn om_entry<'a>(keys: &'a Keys, lengths: &'a Lengths, index: &'a Index, k: u64, answer: &mut [u64; 4])
+pub fn om_entry<'a>(keys: &'a Keys, lengths: &'a Lengths, index: &'a Index, k: u64, answer: &mut [u64; 4])
     ensures { Reads (C.entry k) [] [] answer.new (λ α. (keys.now ≡ α.keys)
         × (lengths.now ≡ α.lengths) × (index.now ≡ α.index)) }
 {
@@ -66,9 +66,8 @@ pub extern "C" fn om_entry<'a>(keys: &'a Keys, lengths: &'a Lengths, index: &'a 
 }
 
 // Tells how many rounds the member has.
-#[unsafe(no_mangle)]
 #[rattlefmt::skip]
-pub extern "C" fn om_entry_len<'a>(keys: &'a Keys, lengths: &'a Lengths, index: &'a Index, k: u64, answer: &mut [u64; 4])
+pub fn om_entry_len<'a>(keys: &'a Keys, lengths: &'a Lengths, index: &'a Index, k: u64, answer: &mut [u64; 4])
     ensures { Reads (C.entry_len k) [] [] answer.new (λ α. (keys.now ≡ α.keys)
         × (lengths.now ≡ α.lengths) × (index.now ≡ α.index)) }
 {
@@ -81,13 +80,7 @@ pub extern "C" fn om_entry_len<'a>(keys: &'a Keys, lengths: &'a Lengths, index: 
 }
 
 // Tells whether the number is a member.
-#[unsafe(no_mangle)]
-pub extern "C" fn om_contains_key<'a>(
-    keys: &'a Keys,
-    index: &'a Index,
-    k: u64,
-    answer: &mut [u64; 4],
-)
+pub fn om_contains_key<'a>(keys: &'a Keys, index: &'a Index, k: u64, answer: &mut [u64; 4])
     ensures { Reads (C.contains_key k) [] [] answer.new (λ α. (keys.now ≡ α.keys)
         × (index.now ≡ α.index)) }
 {
@@ -100,9 +93,8 @@ pub extern "C" fn om_contains_key<'a>(
 }
 
 // Writes the members, in joining order, to the front of `out`, and tells how many.
-#[unsafe(no_mangle)]
 #[rattlefmt::skip]
-pub extern "C" fn om_keys<'a>(keys: &'a Keys, next_key: &'a KeyLinks, members: &'a Counts, out: &mut [u64], answer: &mut [u64; 4])
+pub fn om_keys<'a>(keys: &'a Keys, next_key: &'a KeyLinks, members: &'a Counts, out: &mut [u64], answer: &mut [u64; 4])
     ensures { Reads (C.keys out.old) out.new [] answer.new (λ α. (keys.now ≡ α.keys)
         × (next_key.now ≡ α.next_key) × (members.now ≡ α.members)) }
 {
@@ -113,8 +105,7 @@ pub extern "C" fn om_keys<'a>(keys: &'a Keys, next_key: &'a KeyLinks, members: &
 }
 
 // Tells how many members there are.
-#[unsafe(no_mangle)]
-pub extern "C" fn om_keys_len(members: &Counts, answer: &mut [u64; 4])
+pub fn om_keys_len(members: &Counts, answer: &mut [u64; 4])
     ensures { Reads C.keys_len [] [] answer.new (λ α. members.now ≡ α.members) }
 {
     let n = links::get(members, 0);
@@ -122,8 +113,7 @@ pub extern "C" fn om_keys_len(members: &Counts, answer: &mut [u64; 4])
 }
 
 // Tells how many rounds there are.
-#[unsafe(no_mangle)]
-pub extern "C" fn om_values_len(rounds: &Counts, answer: &mut [u64; 4])
+pub fn om_values_len(rounds: &Counts, answer: &mut [u64; 4])
     ensures { Reads C.values_len [] [] answer.new (λ α. rounds.now ≡ α.rounds) }
 {
     let n = links::get(rounds, 0);
@@ -131,9 +121,8 @@ pub extern "C" fn om_values_len(rounds: &Counts, answer: &mut [u64; 4])
 }
 
 // Writes the pairs in global order, the members to the front of `out` and the rounds to that of `out2`, and tells how many.
-#[unsafe(no_mangle)]
 #[rattlefmt::skip]
-pub extern "C" fn om_iter<'a>(
+pub fn om_iter<'a>(
     keys: &'a Keys, values: &'a Values, key_index: &'a KeyIndex, next_value: &'a ValueLinks, rounds: &'a Counts,
     out: &mut [u64], out2: &mut [u64], answer: &mut [u64; 4],
 )
@@ -163,8 +152,7 @@ pub extern "C" fn om_iter<'a>(
 }
 
 // Writes how many rounds were ever taken in, of each of the sixteen posters, and tells that they are sixteen.
-#[unsafe(no_mangle)]
-pub extern "C" fn om_taken(taken: &Taken, out: &mut [u64; 16], answer: &mut [u64; 4])
+pub fn om_taken(taken: &Taken, out: &mut [u64; 16], answer: &mut [u64; 4])
     ensures { Reads (C.taken out.old) out.new [] answer.new (λ α. taken.now ≡ α.taken) }
 {
     write_counters(taken, out, answer);

@@ -1,5 +1,8 @@
 // Image writing, image reading and the well-linked check by value (document 01, modules 6 and 7): the record goes in and comes back. The two that
 // only read hand back the very record.
+
+#![tactic(auto)]
+
 ghost use Rattle.std.specs.Prelude.{◌≡◌};
 ghost use Rattle.steps.specs.State.{limit};
 ghost use Rattle.steps.specs.Step.{write};

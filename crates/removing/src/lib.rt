@@ -1,9 +1,12 @@
 // The calls that take a whole record out, in place. Each does its step of document 01 on a well-linked map.
+
+#![tactic(auto)]
+
 ghost use Rattle.std.specs.Prelude.{◌≡◌, []};
 ghost use Rattle.steps.specs.Call as C;
 ghost use Rattle.steps.specs.Told.{Told};
 ghost use Rattle.multimap.specs.Arrays.{Arrays};
-ghost use Rattle.multimap.specs.Lent.{lent, left};
+ghost use Rattle.multimap.specs.Lent.{given, lent, left};
 ghost use Rattle.multimap.specs.WellLinked.{WellLinked, linked};
 ghost use Rattle.removing.specs.Expel.{RecordOut};
 
@@ -15,18 +18,15 @@ use multimap::{
 
 // Takes the rounds of the member k out, and it with them; tells the first of them.
 #[rattlefmt::skip]
-#[unsafe(no_mangle)]
-pub extern "C" fn om_remove(
+pub fn om_remove(
     keys: &mut Keys, lengths: &mut Lengths, next_key: &mut KeyLinks, previous_key: &mut KeyLinks,
     values: &mut Values, key_index: &mut KeyIndex, next_value: &mut ValueLinks, previous_value: &mut ValueLinks,
     next_index: &mut IndexLinks, previous_index: &mut IndexLinks, index: &mut Index,
     members: &mut Counts, rounds: &mut Counts, taken: &mut Taken,
     k: u64, answer: &mut [u64; 4],
 )
-    ghost g: { Arrays }
-    requires taken_value { lent keys lengths next_key previous_key values key_index next_value previous_value next_index previous_index index members rounds taken ≡ g }
-    requires well_linked { WellLinked g }
-    ensures { Told linked (C.remove k) g (left keys lengths next_key previous_key values key_index next_value previous_value next_index previous_index index members rounds taken) [] [] answer.new }
+    requires { WellLinked (lent keys lengths next_key previous_key values key_index next_value previous_value next_index previous_index index members rounds taken) }
+    ensures { let g : Arrays = given keys lengths next_key previous_key values key_index next_value previous_value next_index previous_index index members rounds taken in Told linked (C.remove k) g (left keys lengths next_key previous_key values key_index next_value previous_value next_index previous_index index members rounds taken) [] [] answer.new }
 {
     let found = index::find(index, keys, k);
     let Found::At(_, key, _) = found else {
@@ -44,18 +44,15 @@ pub extern "C" fn om_remove(
 
 // Takes the rounds of the member k out, and it with them; writes them to the front of `out` and tells how many.
 #[rattlefmt::skip]
-#[unsafe(no_mangle)]
-pub extern "C" fn om_remove_all(
+pub fn om_remove_all(
     keys: &mut Keys, lengths: &mut Lengths, next_key: &mut KeyLinks, previous_key: &mut KeyLinks,
     values: &mut Values, key_index: &mut KeyIndex, next_value: &mut ValueLinks, previous_value: &mut ValueLinks,
     next_index: &mut IndexLinks, previous_index: &mut IndexLinks, index: &mut Index,
     members: &mut Counts, rounds: &mut Counts, taken: &mut Taken,
     k: u64, out: &mut [u64], answer: &mut [u64; 4],
 )
-    ghost g: { Arrays }
-    requires taken_value { lent keys lengths next_key previous_key values key_index next_value previous_value next_index previous_index index members rounds taken ≡ g }
-    requires well_linked { WellLinked g }
-    ensures { Told linked (C.remove_all k out.old) g (left keys lengths next_key previous_key values key_index next_value previous_value next_index previous_index index members rounds taken) out.new [] answer.new }
+    requires { WellLinked (lent keys lengths next_key previous_key values key_index next_value previous_value next_index previous_index index members rounds taken) }
+    ensures { let g : Arrays = given keys lengths next_key previous_key values key_index next_value previous_value next_index previous_index index members rounds taken in Told linked (C.remove_all k out.old) g (left keys lengths next_key previous_key values key_index next_value previous_value next_index previous_index index members rounds taken) out.new [] answer.new }
 {
     let found = index::find(index, keys, k);
     let Found::At(_, key, _) = found else {
@@ -85,9 +82,7 @@ pub fn remove_record(
     members: &mut Counts, rounds: &mut Counts, taken: &mut Taken,
     key: KeyPlace,
 )
-    ghost g: { Arrays }
-    requires { lent keys lengths next_key previous_key values key_index next_value previous_value next_index previous_index index members rounds taken ≡ g }
-    ensures { RecordOut g key.0 (left keys lengths next_key previous_key values key_index next_value previous_value next_index previous_index index members rounds taken) }
+    ensures { let g : Arrays = given keys lengths next_key previous_key values key_index next_value previous_value next_index previous_index index members rounds taken in RecordOut g key.0 (left keys lengths next_key previous_key values key_index next_value previous_value next_index previous_index index members rounds taken) }
 {
     let mut left = multimap::size(lengths, key);
     let mut x = multimap::head(next_index, key);

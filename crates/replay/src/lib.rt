@@ -1,10 +1,13 @@
 // Runs the calls of a list held in slices, one after the other, on one map in arrays of its own that starts new.
+
+#![tactic(auto)]
+
 ghost use Rattle.std.specs.Prelude.{◌≡◌, ◌&&◌, ◌||◌, ◌+◌, ◌≤◌, length};
 ghost use Rattle.steps.specs.State.{limit};
 ghost use Rattle.steps.specs.Call.{call_of, lends as lends_of};
 ghost use Rattle.steps.specs.Told.{Told};
 ghost use Rattle.multimap.specs.Arrays.{Arrays};
-ghost use Rattle.multimap.specs.Lent.{lent, left};
+ghost use Rattle.multimap.specs.Lent.{given, lent, left};
 ghost use Rattle.multimap.specs.WellLinked.{WellLinked, linked};
 ghost use Rattle.replay.specs.Tape.{Ran};
 ghost use Rattle.replay.specs.Place.{head_at, known_head, fits_head, Ready, stopped, Small, Past, Within, Advanced};
@@ -16,9 +19,8 @@ use multimap::{
 
 // Runs the calls that the slices hold, on the map that `om_new` makes with these limits. The out slices, and after each call its answer, are written
 // to `outs`, `outs2` and `answers`. A list that is cut off or holds what is no call is run up to there. The answer is how many calls were run.
-#[unsafe(no_mangle)]
 #[rattlefmt::skip]
-pub extern "C" fn replay(
+pub fn replay(
     members_limit: u64, rounds_limit: u64, calls: &[u64], outs: &mut [u64], outs2: &mut [u64], marks: &[u8], answers: &mut [u64],
 ) -> u64
     ensures { (m : Arrays) × Played (limit members_limit rounds_limit) calls.now outs.old outs2.old
@@ -170,10 +172,8 @@ fn run(
     members: &mut Counts, rounds: &mut Counts, taken: &mut Taken,
     calls: &[u64], outs: &mut [u64], outs2: &mut [u64], marks: &[u8], answers: &mut [u64],
 ) -> u64
-    ghost g: { Arrays }
-    requires taken_value { lent keys lengths next_key previous_key values key_index next_value previous_value next_index previous_index index members rounds taken ≡ g }
-    requires well_linked { WellLinked g }
-    ensures { Ran linked calls.now outs.old outs2.old marks.now answers.old g
+    requires { WellLinked (lent keys lengths next_key previous_key values key_index next_value previous_value next_index previous_index index members rounds taken) }
+    ensures { let g : Arrays = given keys lengths next_key previous_key values key_index next_value previous_value next_index previous_index index members rounds taken in Ran linked calls.now outs.old outs2.old marks.now answers.old g
         outs.new outs2.new answers.new (left keys lengths next_key previous_key values key_index next_value previous_value next_index previous_index index members rounds taken) result }
 {
     let mut p = Place { call: 0, out: 0, out2: 0, mark: 0, answer: 0, ran: 0, more: true };
@@ -195,10 +195,8 @@ fn advance(
     members: &mut Counts, rounds: &mut Counts, taken: &mut Taken,
     p: Place, calls: &[u64], outs: &mut [u64], outs2: &mut [u64], marks: &[u8], answers: &mut [u64],
 ) -> Place
-    ghost g: { Arrays }
-    requires taken_value { lent keys lengths next_key previous_key values key_index next_value previous_value next_index previous_index index members rounds taken ≡ g }
-    requires well_linked { WellLinked g × Within p calls.now outs.old outs2.old marks.now answers.old }
-    ensures { Advanced calls.now marks.now p outs.old outs2.old answers.old g
+    requires { WellLinked (lent keys lengths next_key previous_key values key_index next_value previous_value next_index previous_index index members rounds taken) × Within p calls.now outs.old outs2.old marks.now answers.old }
+    ensures { let g : Arrays = given keys lengths next_key previous_key values key_index next_value previous_value next_index previous_index index members rounds taken in Advanced calls.now marks.now p outs.old outs2.old answers.old g
         result outs.new outs2.new answers.new (left keys lengths next_key previous_key values key_index next_value previous_value next_index previous_index index members rounds taken) }
 {
     let i = p.call;
@@ -238,10 +236,8 @@ fn turn(
     members: &mut Counts, rounds: &mut Counts, taken: &mut Taken,
     h: Head, out: &mut [u64], out2: &mut [u64], marks: &[u8], ans: &mut [u64],
 )
-    ghost g: { Arrays }
-    requires taken_value { lent keys lengths next_key previous_key values key_index next_value previous_value next_index previous_index index members rounds taken ≡ g }
-    requires ready { Ready g h.op out.old out2.old × (length ans.old ≡ 4) }
-    ensures { Told linked (call_of h.op h.poster h.k h.v out.old out2.old marks.now) g (left keys lengths next_key previous_key values key_index next_value previous_value next_index previous_index index members rounds taken)
+    requires { Ready (lent keys lengths next_key previous_key values key_index next_value previous_value next_index previous_index index members rounds taken) h.op out.old out2.old × (length ans.old ≡ 4) }
+    ensures { let g : Arrays = given keys lengths next_key previous_key values key_index next_value previous_value next_index previous_index index members rounds taken in Told linked (call_of h.op h.poster h.k h.v out.old out2.old marks.now) g (left keys lengths next_key previous_key values key_index next_value previous_value next_index previous_index index members rounds taken)
         out.new out2.new ans.new }
 {
     let mut told = [0u64; 4];

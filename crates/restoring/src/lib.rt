@@ -1,8 +1,11 @@
 // The reading of an image (document 01, module 7; crate `image` says how it is laid out). No exported function has a premise.
+
+#![tactic(auto)]
+
 ghost use Rattle.std.specs.Prelude.{◌≡◌, ◌+◌, ◌*◌, ◌<◌, ◌≤◌, length, take, drop};
 ghost use Rattle.steps.specs.State.{limit, empty};
 ghost use Rattle.multimap.specs.Arrays.{Arrays};
-ghost use Rattle.multimap.specs.Lent.{lent, left};
+ghost use Rattle.multimap.specs.Lent.{given, lent, left};
 ghost use Rattle.multimap.specs.Map.{limits_of, state_of};
 ghost use Rattle.multimap.specs.WellLinked.{WellLinked};
 ghost use Rattle.image.specs.Bytes.{number, numbers};
@@ -16,9 +19,8 @@ use multimap::{
 };
 
 // Reads an image into these limits, whatever the arrays hold; a refused reading leaves the map that `om_new` makes with them.
-#[unsafe(no_mangle)]
 #[rattlefmt::skip]
-pub extern "C" fn om_read_image(
+pub fn om_read_image(
     keys: &mut Keys, lengths: &mut Lengths, next_key: &mut KeyLinks, previous_key: &mut KeyLinks,
     values: &mut Values, key_index: &mut KeyIndex, next_value: &mut ValueLinks, previous_value: &mut ValueLinks,
     next_index: &mut IndexLinks, previous_index: &mut IndexLinks, index: &mut Index,
@@ -94,10 +96,8 @@ fn restore(
     members: &mut Counts, rounds: &mut Counts, taken: &mut Taken,
     s: &[u8], n: usize, m: u64,
 ) -> bool
-    ghost g: { Arrays }
-    requires taken_value { lent keys lengths next_key previous_key values key_index next_value previous_value next_index previous_index index members rounds taken ≡ g }
-    requires well_linked { WellLinked g × (state_of g ≡ empty (limits_of g)) × RightSizes (limits_of g) s.now n m }
-    ensures { Restored (limits_of g) s.now result (left keys lengths next_key previous_key values key_index next_value previous_value next_index previous_index index members rounds taken) }
+    requires { let g : Arrays = lent keys lengths next_key previous_key values key_index next_value previous_value next_index previous_index index members rounds taken in WellLinked g × (state_of g ≡ empty (limits_of g)) × RightSizes (limits_of g) s.now n m }
+    ensures { let g : Arrays = given keys lengths next_key previous_key values key_index next_value previous_value next_index previous_index index members rounds taken in Restored (limits_of g) s.now result (left keys lengths next_key previous_key values key_index next_value previous_value next_index previous_index index members rounds taken) }
 {
     let ks = read_numbers(&s[8..], n);
     let vs = read_numbers(&s[8 + 8 * n..], n);
@@ -118,10 +118,8 @@ fn append_all(
     members: &mut Counts, rounds: &mut Counts, taken: &mut Taken,
     ks: &[u64], vs: &[u64],
 ) -> bool
-    ghost g: { Arrays }
-    requires taken_value { lent keys lengths next_key previous_key values key_index next_value previous_value next_index previous_index index members rounds taken ≡ g }
-    requires well_linked { WellLinked g × (state_of g ≡ empty (limits_of g)) × (length ks.now ≤ (limits_of g).rounds) × (length ks.now ≡ length vs.now) }
-    ensures { Built (limits_of g) (pair_up ks.now vs.now) result (left keys lengths next_key previous_key values key_index next_value previous_value next_index previous_index index members rounds taken) }
+    requires { let g : Arrays = lent keys lengths next_key previous_key values key_index next_value previous_value next_index previous_index index members rounds taken in WellLinked g × (state_of g ≡ empty (limits_of g)) × (length ks.now ≤ (limits_of g).rounds) × (length ks.now ≡ length vs.now) }
+    ensures { let g : Arrays = given keys lengths next_key previous_key values key_index next_value previous_value next_index previous_index index members rounds taken in Built (limits_of g) (pair_up ks.now vs.now) result (left keys lengths next_key previous_key values key_index next_value previous_value next_index previous_index index members rounds taken) }
 {
     let mut answer = [0u64; 4];
     let mut i = 0;

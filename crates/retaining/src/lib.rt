@@ -1,4 +1,7 @@
 // `retain` in place: one walk along the list of rounds, which ends with the last round that leaves.
+
+#![tactic(auto)]
+
 ghost use Rattle.std.specs.Prelude.{◌≡◌, [], ◌≤◌, eqb, length};
 ghost use Rattle.steps.specs.Accounting.{times};
 ghost use Rattle.steps.specs.Call as C;
@@ -6,7 +9,7 @@ ghost use Rattle.steps.specs.Coded.{bit};
 ghost use Rattle.steps.specs.Told.{Told};
 ghost use Rattle.links.specs.Stores.{at};
 ghost use Rattle.multimap.specs.Arrays.{Arrays};
-ghost use Rattle.multimap.specs.Lent.{lent, left};
+ghost use Rattle.multimap.specs.Lent.{given, lent, left};
 ghost use Rattle.multimap.specs.WellLinked.{WellLinked, linked};
 ghost use Rattle.retaining.specs.Thin.{Turned, Thinned};
 
@@ -18,18 +21,15 @@ use multimap::{
 
 // Takes the rounds out whose mark is 0, and the members with no other round; tells how many rounds are kept.
 #[rattlefmt::skip]
-#[unsafe(no_mangle)]
-pub extern "C" fn om_retain(
+pub fn om_retain(
     keys: &mut Keys, lengths: &mut Lengths, next_key: &mut KeyLinks, previous_key: &mut KeyLinks,
     values: &mut Values, key_index: &mut KeyIndex, next_value: &mut ValueLinks, previous_value: &mut ValueLinks,
     next_index: &mut IndexLinks, previous_index: &mut IndexLinks, index: &mut Index,
     members: &mut Counts, rounds: &mut Counts, taken: &mut Taken,
     marks: &[u8], answer: &mut [u64; 4],
 )
-    ghost g: { Arrays }
-    requires taken_value { lent keys lengths next_key previous_key values key_index next_value previous_value next_index previous_index index members rounds taken ≡ g }
-    requires well_linked { WellLinked g }
-    ensures { Told linked (C.retain marks.now) g (left keys lengths next_key previous_key values key_index next_value previous_value next_index previous_index index members rounds taken) [] [] answer.new }
+    requires { WellLinked (lent keys lengths next_key previous_key values key_index next_value previous_value next_index previous_index index members rounds taken) }
+    ensures { let g : Arrays = given keys lengths next_key previous_key values key_index next_value previous_value next_index previous_index index members rounds taken in Told linked (C.retain marks.now) g (left keys lengths next_key previous_key values key_index next_value previous_value next_index previous_index index members rounds taken) [] [] answer.new }
 {
     let held = rounds[0];
     if marks.len() != held as usize {
@@ -81,10 +81,8 @@ fn thin(
     members: &mut Counts, rounds: &mut Counts, taken: &mut Taken,
     marks: &[u8], struck: u16,
 )
-    ghost g: { Arrays }
-    requires taken_value { lent keys lengths next_key previous_key values key_index next_value previous_value next_index previous_index index members rounds taken ≡ g }
-    requires struck_value { struck ≡ times (eqb 0) marks.now }
-    ensures { Thinned marks.now (at g.next_value 1024) g (left keys lengths next_key previous_key values key_index next_value previous_value next_index previous_index index members rounds taken) }
+    requires { struck ≡ times (eqb 0) marks.now }
+    ensures { let g : Arrays = given keys lengths next_key previous_key values key_index next_value previous_value next_index previous_index index members rounds taken in Thinned marks.now (at g.next_value 1024) g (left keys lengths next_key previous_key values key_index next_value previous_value next_index previous_index index members rounds taken) }
 {
     let mut x = multimap::after(next_value, ValuePlace(ROUNDS));
     let mut left = struck;
@@ -111,9 +109,7 @@ fn turn(
     members: &mut Counts, rounds: &mut Counts, taken: &mut Taken,
     x: ValuePlace, mark: u8,
 )
-    ghost g: { Arrays }
-    requires { lent keys lengths next_key previous_key values key_index next_value previous_value next_index previous_index index members rounds taken ≡ g }
-    ensures { Turned mark x.0 g (left keys lengths next_key previous_key values key_index next_value previous_value next_index previous_index index members rounds taken) }
+    ensures { let g : Arrays = given keys lengths next_key previous_key values key_index next_value previous_value next_index previous_index index members rounds taken in Turned mark x.0 g (left keys lengths next_key previous_key values key_index next_value previous_value next_index previous_index index members rounds taken) }
 {
     if mark != 0 {
         return;

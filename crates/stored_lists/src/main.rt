@@ -1,6 +1,9 @@
 // Runs the lists of calls of standard input and prints what each leaves (crates/tapes/specs). At most 688,128 bytes are read and 262,144 written.
 // First come the lists of tools/edges.py, which says by a model what must be printed; then a sample of those that the Rust crate was run on, with
 // its answers (oracle/driver/sample.rs).
+
+#![tactic(auto)]
+
 use libc::{STDIN_FILENO, STDOUT_FILENO};
 
 fn main() {

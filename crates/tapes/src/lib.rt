@@ -1,4 +1,7 @@
 // Reads lists of calls as text, runs them, and prints what each leaves.
+
+#![tactic(auto)]
+
 mod parts;
 mod rows;
 

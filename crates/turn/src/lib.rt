@@ -1,8 +1,11 @@
 // A call in place, by its number in the table of the calls (crate steps, `call_of`). Each of the first sixteen is lent all of
 // the map's arrays; they stand in crates of their own, eight to a function, since a function of more would take minutes to check. The last eight only read.
+
+#![tactic(auto)]
+
 ghost use Rattle.std.specs.Prelude.{ℕ, ◌<◌, ◌≤◌, List, ◌≡◌};
 ghost use Rattle.multimap.specs.Arrays.{Arrays};
-ghost use Rattle.multimap.specs.Lent.{lent, left};
+ghost use Rattle.multimap.specs.Lent.{given, lent, left};
 ghost use Rattle.multimap.specs.WellLinked.{WellLinked};
 ghost use Rattle.turn.specs.Turned.{Turned};
 ghost use Rattle.turn.specs.Has.{Has};
@@ -13,19 +16,16 @@ use multimap::{
 
 // Makes the call with the number `op`; from 24 on that is `values_len`. `poster`, `k` and `v` are its arguments.
 // A slice that it does not have is left as it is.
-#[unsafe(no_mangle)]
 #[rattlefmt::skip]
-pub extern "C" fn om_call(
+pub fn om_call(
     keys: &mut Keys, lengths: &mut Lengths, next_key: &mut KeyLinks, previous_key: &mut KeyLinks,
     values: &mut Values, key_index: &mut KeyIndex, next_value: &mut ValueLinks, previous_value: &mut ValueLinks,
     next_index: &mut IndexLinks, previous_index: &mut IndexLinks, index: &mut Index,
     members: &mut Counts, rounds: &mut Counts, taken: &mut Taken,
     op: u64, poster: u64, k: u64, v: u64, out: &mut [u64], out2: &mut [u64], marks: &[u8], answer: &mut [u64; 4],
 )
-    ghost g: { Arrays }
-    requires taken_value { lent keys lengths next_key previous_key values key_index next_value previous_value next_index previous_index index members rounds taken ≡ g }
-    requires well_linked { WellLinked g }
-    ensures { Turned op poster k v g (left keys lengths next_key previous_key values key_index next_value previous_value next_index previous_index index members rounds taken) out.old out2.old marks.now out.new out2.new answer.new }
+    requires { WellLinked (lent keys lengths next_key previous_key values key_index next_value previous_value next_index previous_index index members rounds taken) }
+    ensures { let g : Arrays = given keys lengths next_key previous_key values key_index next_value previous_value next_index previous_index index members rounds taken in Turned op poster k v g (left keys lengths next_key previous_key values key_index next_value previous_value next_index previous_index index members rounds taken) out.old out2.old marks.now out.new out2.new answer.new }
 {
     if op < 8 {
         turn_first::call_below_8(

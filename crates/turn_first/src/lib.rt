@@ -1,7 +1,10 @@
 // The first eight calls of the table (crate steps, `call_of`) by their number, in place.
+
+#![tactic(auto)]
+
 ghost use Rattle.std.specs.Prelude.{ℕ, ◌<◌, List, ◌≡◌};
 ghost use Rattle.multimap.specs.Arrays.{Arrays};
-ghost use Rattle.multimap.specs.Lent.{lent, left};
+ghost use Rattle.multimap.specs.Lent.{given, lent, left};
 ghost use Rattle.multimap.specs.WellLinked.{WellLinked};
 ghost use Rattle.turn_first.specs.Turned.{Turned};
 
@@ -18,10 +21,8 @@ pub fn call_below_8(
     members: &mut Counts, rounds: &mut Counts, taken: &mut Taken,
     op: u64, poster: u64, k: u64, v: u64, out: &mut [u64], answer: &mut [u64; 4],
 )
-    ghost g: { Arrays }
-    requires taken_value { lent keys lengths next_key previous_key values key_index next_value previous_value next_index previous_index index members rounds taken ≡ g }
-    requires well_linked { WellLinked g }
-    ensures { op < 8 → (out2 marks : List ℕ) → Turned op poster k v g (left keys lengths next_key previous_key values key_index next_value previous_value next_index previous_index index members rounds taken) out.old out2 marks out.new out2 answer.new }
+    requires { WellLinked (lent keys lengths next_key previous_key values key_index next_value previous_value next_index previous_index index members rounds taken) }
+    ensures { let g : Arrays = given keys lengths next_key previous_key values key_index next_value previous_value next_index previous_index index members rounds taken in op < 8 → (out2 marks : List ℕ) → Turned op poster k v g (left keys lengths next_key previous_key values key_index next_value previous_value next_index previous_index index members rounds taken) out.old out2 marks out.new out2 answer.new }
 {
     match op {
         0 => adding::om_append(

@@ -1,12 +1,15 @@
 // The well-linked check (document 01, module 6), for whatever a map's arrays hold: linear passes over the lists, the chains and the index.
 // The public functions have no premise.
+
+#![tactic(auto)]
+
 ghost use Rattle.std.specs.Prelude.{◌≡◌, ℕ, ◌+◌, ◌≤◌, ◌<◌, length};
 ghost use Rattle.index.specs.Agree.{Decides};
 ghost use Rattle.links.specs.Route.{tally, walk, Route};
 ghost use Rattle.links.specs.Places.{Linked};
 ghost use Rattle.links.specs.Stores.{at};
 ghost use Rattle.multimap.specs.Arrays.{Arrays};
-ghost use Rattle.multimap.specs.Lent.{lent};
+ghost use Rattle.multimap.specs.Lent.{given};
 ghost use Rattle.multimap.specs.WellLinked.{WellLinked};
 ghost use Rattle.well_linked.specs.Chains.{trail, Inside, Begun, Walked, Ends, Recorded};
 ghost use Rattle.well_linked.specs.Marks.{Marks, list_of};
@@ -25,9 +28,7 @@ pub fn well_linked<'a>(
     next_index: &'a IndexLinks, previous_index: &'a IndexLinks, index: &'a Index,
     members: &'a Counts, rounds: &'a Counts, taken: &'a Taken,
 ) -> bool
-    ghost g: { Arrays }
-    requires { lent keys lengths next_key previous_key values key_index next_value previous_value next_index previous_index index members rounds taken ≡ g }
-    ensures { Decides result (WellLinked g) }
+    ensures { let g : Arrays = given keys lengths next_key previous_key values key_index next_value previous_value next_index previous_index index members rounds taken in Decides result (WellLinked g) }
 {
     let counters: &[u32] = taken;
     let counter = counters[0];
@@ -59,16 +60,13 @@ pub fn well_linked<'a>(
 
 // Says whether a map is well-linked by a number: 1 for yes, 0 for no.
 #[rattlefmt::skip]
-#[unsafe(no_mangle)]
-pub extern "C" fn om_well_linked<'a>(
+pub fn om_well_linked<'a>(
     keys: &'a Keys, lengths: &'a Lengths, next_key: &'a KeyLinks, previous_key: &'a KeyLinks,
     values: &'a Values, key_index: &'a KeyIndex, next_value: &'a ValueLinks, previous_value: &'a ValueLinks,
     next_index: &'a IndexLinks, previous_index: &'a IndexLinks, index: &'a Index,
     members: &'a Counts, rounds: &'a Counts, taken: &'a Taken,
 ) -> u64
-    ghost g: { Arrays }
-    requires { lent keys lengths next_key previous_key values key_index next_value previous_value next_index previous_index index members rounds taken ≡ g }
-    ensures { Tells result (WellLinked g) }
+    ensures { let g : Arrays = given keys lengths next_key previous_key values key_index next_value previous_value next_index previous_index index members rounds taken in Tells result (WellLinked g) }
 {
     if well_linked(keys, lengths, next_key, previous_key, values, key_index, next_value, previous_value, next_index,
         previous_index, index, members, rounds, taken) { 1 } else { 0 }
