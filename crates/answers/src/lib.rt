@@ -7,7 +7,7 @@ ghost use Rattle.steps.specs.Coded.{bit as bit_of, coded, decoded};
 ghost use Rattle.answers.specs.Answers.{answer_of};
 
 // `Refused` has document 01's number of the refusal.
-#[derive(Drop)]
+#[derive(Clone, Copy)]
 pub enum Answer {
     Refused(u64),
     Nothing,
