@@ -55,7 +55,7 @@ module _ (n p : ℕ → ℕ) where
       ⊎_elim (λ (e : q ≡ z). rw (e, h.1, tally_same a []) (omega arith)) (λ (e : q ≢ z). absurd (omega (arith, tally_other q z [] e))) (same_or_not q z)
   route_prev a (x ∷ xs) z q h i =
       let below : 0 < tally q (z ∷ xs) → 0 < tally (p q) (x ∷ xs) = route_prev x xs z q h.2 in
-      ⊎_elim (λ (e : q ≡ x). rw (e, h.1, tally_same a (x ∷ xs)) (omega arith))
+      ⊎_elim (λ (e : q ≡ x). omega (arith, tally_hit (p q) a (x ∷ xs) (ap p e ∙ h.1)))
       (λ (e : q ≢ x). omega (arith, below (omega (arith, tally_other q x xs e)))) (same_or_not q x)
 
   -- the first place, and the last
