@@ -15,7 +15,7 @@ pub const EMPTY: u16 = 65535;
 
 // A member's place in the map's arrays of keys.
 #[repr(C)]
-#[derive(Drop)]
+#[derive(Clone, Copy)]
 pub struct KeyPlace(pub u16);
 
 // What a search finds: the member's place in the index, its member place and how many places were looked at;

@@ -45,7 +45,7 @@ pub type Taken = [u32; 16];
 
 // A round's place in the map's arrays of rounds.
 #[repr(C)]
-#[derive(Drop)]
+#[derive(Clone, Copy)]
 pub struct ValuePlace(pub u16);
 
 #[repr(C)]
