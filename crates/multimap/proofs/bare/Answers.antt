@@ -1,6 +1,5 @@
 -- `multimap::bare` meets its contract. Assumes nothing.
 use mathlib.Core.Path.{◌≡◌, refl, ap, ◌∙◌}
-use native.Mathlib.Omega.{arith}
 use borrow.Author.Rules.{rules}
 use Prim.Native.Nat.{ℕ}
 use mathlib.Core.List.{map}
@@ -11,20 +10,7 @@ use Rattle.index.proofs.Table.{bare}
 use Rattle.multimap.specs.Map.{at}
 use Rattle.multimap.specs.Arrays.{key_number, value_number, key_place, value_place}
 use Rattle.multimap.proofs.Empty.{empty_map}
-use Rattle.multimap.proofs.bare.Statement.{statement}
-use Rattle.multimap.proofs.bare.Tie as tie
-
-element_set_from_out : tie.Need-element-set-from-out
-element_set_from_out c = search rules
-
-element_set_from_out_2 : tie.Need-element-set-from-out-2
-element_set_from_out_2 c = search rules
-
-element_set_from_out_3 : tie.Need-element-set-from-out-3
-element_set_from_out_3 c = search rules
-
-element_set_from_out_4 : tie.Need-element-set-from-out-4
-element_set_from_out_4 c = search rules
+use Rattle.multimap.proofs.bare.Goals as goal
 
 -- what stands at the end of an array of places
 last_key : at (map key_number (set (replicate 257 (key_place 0)) 256 (key_place 256))) 256 ≡ 256
@@ -39,7 +25,7 @@ long f n x = length-map (replicate n x) f ∙ length-replicate n x
 long_set : {A : Type 0} (f : A → ℕ) (n : ℕ) (x : A) (i : ℕ) (y : A) → length (map f (set (replicate n x) i y)) ≡ n
 long_set f n x i y = length-map (set (replicate n x) i y) f ∙ length-set (replicate n x) i y ∙ length-replicate n x
 
-returns : tie.Need-returns
+pub returns : goal.returns
 returns c =
     empty_map _ refl refl (replicate 16 0) refl refl refl last_value last_value last_key last_key
     record {
@@ -59,13 +45,3 @@ returns c =
       taken = length-replicate {A = ℕ} 16 0;
     }
     (bare _ _ refl (λ p lp. get_or-replicate 512 p 65535 0 lp)) c.requires (none_taken 16)
-
-pub bare_spec : {M : Type 1} → statement M
-bare_spec =
-    tie.close
-    (tie.spec
-    element_set_from_out
-    element_set_from_out_2
-    element_set_from_out_3
-    element_set_from_out_4
-    returns)

@@ -1,0 +1,11 @@
+-- `multimap::places::key_index` meets its contract. Assumes nothing.
+use Prim.Native.Nat.{◌-◌}
+use Rattle.multimap.specs.Arrays.{key_number}
+use Rattle.multimap.proofs.Turning.{Turned}
+use Rattle.multimap.proofs.places.key_index.Given as goal
+
+abbrev pub invariant-loop-i : goal.invariant-loop-i
+invariant-loop-i l = Turned key_number l.a 1024 l.i l.out
+
+abbrev pub decreases-loop-i : goal.decreases-loop-i
+decreases-loop-i l = 1024 - l.i

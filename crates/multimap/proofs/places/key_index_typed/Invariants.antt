@@ -1,0 +1,10 @@
+use Prim.Native.Nat.{◌-◌}
+use Rattle.multimap.specs.Arrays.{key_place}
+use Rattle.multimap.proofs.Turning.{Turned}
+use Rattle.multimap.proofs.places.key_index_typed.Given as goal
+
+abbrev pub invariant-loop-i : goal.invariant-loop-i
+invariant-loop-i l = Turned key_place l.a 1024 l.i l.out
+
+abbrev pub decreases-loop-i : goal.decreases-loop-i
+decreases-loop-i l = 1024 - l.i
