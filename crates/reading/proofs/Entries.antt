@@ -110,15 +110,11 @@ module _ (α : Arrays) (g : WellLinked α) (k : ℕ) (keys lengths index : List 
       go (At p x n) s = occupied_by x.0 (found α g k p n x s)
       go (Absent p n) s = vacant_yet (not_found α g k p n s)
 
--- the variants other than Occupied, by position: so the `else` of `let Answer::Occupied(n) = a else` has it
-abbrev Other : Answer → Type 0
-Other a = OneOf (0 ∷ 1 ∷ 2 ∷ 3 ∷ 4 ∷ 5 ∷ 6 ∷ 8 ∷ []) (tag_of the_type a)
-
 -- what is so where it goes on, and in the `else`
 pub long_as : {α : Arrays} {k : ℕ} {a : Answer} → Entered α k a → (n : ℕ) → a ≡ Occupied n → n ≡ length (St.rounds k (pairs α))
 long_as (occupied_by x h) n e = cc h.many
 long_as (vacant_yet h) n e = absurd (let z : ◌≡◌ {A = ℕ} 0 1 = cc in omega arith)
 
-pub unoccupied : {α : Arrays} {k : ℕ} {a : Answer} → Entered α k a → Other a → NoMember α k
-unoccupied (occupied_by x h) t = absurd (miss (0 ∷ 1 ∷ 2 ∷ 3 ∷ 4 ∷ 5 ∷ 6 ∷ 8 ∷ []) 7 tt t)
+pub unoccupied : {α : Arrays} {k : ℕ} {a : Answer} → Entered α k a → ((n : ℕ) → a ≡ Occupied n → ⊥) → NoMember α k
+unoccupied (occupied_by x h) t = absurd (t _ refl)
 unoccupied (vacant_yet h) t = h

@@ -2,7 +2,7 @@
 use Prim.Native.Nat.{ℕ, ◌≤◌, ◌<◌}
 use mathlib.Core.Path.{◌≡◌, refl, sym, ap, ◌∙◌}
 use mathlib.Core.Logic.{◌⊎◌, ⊎_elim}
-use mathlib.Core.Bool.{Bool, true, false, cond, ◌||◌, or_true}
+use mathlib.Core.Bool.{Bool, true, false, cond, ◌||◌, or-true}
 use mathlib.Core.List.{List, [], map}
 use mathlib.Core.Option.{some, none}
 use borrow.Author.Tests.{lt-ltb, le-ltb}
@@ -125,7 +125,7 @@ module _ (α : Arrays) (g : WellLinked α) where
         told_same (C.iter ks vs) (refusing (C.iter ks vs) 3) refl
         (step_iter_short ks vs (state_of α)
         (⊎_elim (λ (l : length ks < n). rw (lt-ltb (length ks) (length (pairs α)) (rw long l)))
-        (λ (l : length vs < n). rw (lt-ltb (length vs) (length (pairs α)) (rw long l)) (or_true (short ks (pairs α)))) h)) ans
+        (λ (l : length vs < n). rw (lt-ltb (length vs) (length (pairs α)) (rw long l)) (or-true (short ks (pairs α)))) h)) ans
 
     module _ (ks' vs' : List ℕ) (keys_fit : n ≤ length ks) (values_fit : n ≤ length vs) where
       written : ks' ≡ over (map (λ p. p.key) (pairs α)) ks → vs' ≡ over (map (λ p. p.value) (pairs α)) vs

@@ -12,7 +12,7 @@ returns-in_default c =
     λ α same g.
     let is = entered α g c.args.k _ _ _ same c.entry-a.result c.entry-a.ensures in
     told_entry_len α g c.args.k _
-    (c.tell.ensures ∙ ap (λ l. coded (count (length l))) (sym (unoccupied is c.in-Occupied.keys2).rounds))
+    (c.tell.ensures ∙ ap (λ l. coded (count (length l))) (sym (unoccupied is c.in_default.not-Occupied).rounds))
 
 pub returns : goal.returns
 returns c =

@@ -9,13 +9,17 @@ use Rattle.links.specs.Stores.{at}
 use Rattle.copying.proofs.Copying.{none_copied, still_long, slot, one_copied, all_copied}
 use Rattle.reading.proofs.Steps.{told_iter_short, told_iter}
 use Rattle.reading.proofs.om_iter.Goals as goal
+use Rattle.reading.proofs.om_iter.Goals.{then-out-end-via-then-out-end, then-out-end-via-else-out-end+then-out2-end}
 
 pub returns-then-out-end : goal.returns-then-out-end
 returns-then-out-end c =
     λ α same g.
     let held = c.get-n.ensures ∙ ap (λ l. at l 0) same.4 in
     told_iter_short α g c.args.out.now c.args.out2.now c.get-n.result held _
-    (⊎_elim (λ w. inl w.taken) (λ w. inr (ltb-true _ _ w.1.taken)) c.if-out-end.branch) c.tell.ensures
+    (elim c.then-out-end.branch [
+      then-out-end-via-then-out-end w ↦ inl w.if-out-end.true
+      | then-out-end-via-else-out-end+then-out2-end w ↦ inr w.if-out2-end.true
+    ]) c.tell.ensures
 
 pub loop-i-init : goal.loop-i-init
 loop-i-init c =
@@ -23,7 +27,7 @@ loop-i-init c =
     let x = c.after-x.result.0 in
     let end = c.get-n.result in (
       none_copied _ next x end c.args.out.now (omega (arith, c.if-out-end.false)),
-      none_copied _ next x end c.args.out2.now (ltb-false _ _ c.if-out2-end.false),
+      none_copied _ next x end c.args.out2.now c.if-out2-end.false,
     )
 
 pub bounds-out-i : goal.bounds-out-i
