@@ -3,3 +3,9 @@ pub mod Writes
 pub mod Layouts
 pub mod Runs
 pub mod Images
+pub mod Numbers
+pub mod Appends
+pub mod Restores
+pub mod Back
+pub mod Distinct
+pub mod Theorems

@@ -3,3 +3,4 @@ pub mod Bytes
 pub mod Running
 pub mod Image
 pub mod Answers
+pub mod Parts

@@ -139,7 +139,7 @@ fn show(s: &[u8], members_limit: u64, rounds_limit: u64) {
     let mut rounds = [0u16; 4];
     let mut taken = [0u32; 16];
     let mut told = [0u64; 4];
-    restoring::om_read_image(
+    image::om_read_image(
         &mut keys, &mut lengths, &mut next_key, &mut previous_key, &mut values, &mut key_index, &mut next_value,
         &mut previous_value, &mut next_index, &mut previous_index, &mut index, &mut members, &mut rounds, &mut taken,
         members_limit, rounds_limit, s, &mut told,

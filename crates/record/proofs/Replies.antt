@@ -14,8 +14,7 @@ use Rattle.multimap.specs.Map.{state_of}
 use Rattle.multimap.proofs.Sizes.{typed_back}
 use Rattle.ordered_multimap.proofs.Packing.{record_with, packed}
 use Rattle.image.specs.Image.{write_of}
-use Rattle.image.specs.Answers.{Writes}
-use Rattle.restoring.specs.Answers.{Reads, Restores}
+use Rattle.image.specs.Answers.{Writes, Reads, Restores}
 
 -- the answer that the numbers are read as is the one that was told
 told : {a b : Answer} {ans : List ℕ} → ans ≡ coded b → a ≡ decoded ans → a ≡ b

@@ -12,7 +12,7 @@ ghost use Rattle.multimap.specs.WellLinked.{WellLinked};
 ghost use Rattle.index.specs.Agree.{Decides};
 ghost use Rattle.answers.specs.Answers.{answer_of};
 ghost use Rattle.image.specs.Image.{write_of};
-ghost use Rattle.restoring.specs.Answers.{Reads};
+ghost use Rattle.image.specs.Answers.{Reads};
 
 use index::KeyPlace;
 use multimap::{ListOrderedMultimap, ValuePlace, places};
@@ -75,7 +75,7 @@ pub fn read_image(members_limit: u64, rounds_limit: u64, bytes: &[u8]) -> Reply
     let mut rounds = [0u16; 4];
     let mut taken = [0u32; 16];
     let mut numbers = [0u64; 4];
-    restoring::om_read_image(
+    image::om_read_image(
         &mut keys, &mut lengths, &mut next_key, &mut previous_key, &mut values, &mut key_index, &mut next_value, &mut previous_value,
         &mut next_index, &mut previous_index, &mut index, &mut members, &mut rounds, &mut taken,
         members_limit, rounds_limit, bytes, &mut numbers,

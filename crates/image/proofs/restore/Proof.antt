@@ -1,15 +1,15 @@
--- `restoring::restore` meets its contract, by the laws of proofs/Restores.antt. Assumes nothing.
+-- `image::restore` meets its contract, by the laws of proofs/Restores.antt. Assumes nothing.
 use Prim.Native.Nat.{ℕ, ◌+◌, ◌*◌}
 use mathlib.Core.Path.{◌≡◌, sym, ap, ◌∙◌}
 use mathlib.Core.List.{List}
 use native.Mathlib.Omega.{arith}
 use lib.ListN.{take, drop}
 use Rattle.image.specs.Bytes.{numbers}
-use Rattle.restoring.proofs.Numbers.{rest}
-use Rattle.restoring.proofs.Restores.{many_members, many_rounds, restored_many, restored_by}
+use Rattle.image.proofs.Numbers.{rest}
+use Rattle.image.proofs.Restores.{many_members, many_rounds, restored_many, restored_by}
 use borrow.Author.Rules.{rules}
-use Rattle.restoring.proofs.restore.Statement.{statement}
-use Rattle.restoring.proofs.restore.Tie as tie
+use Rattle.image.proofs.restore.Statement.{statement}
+use Rattle.image.proofs.restore.Tie as tie
 
 -- the two arrays
 module _ (r : tie.After-read-numbers2) where

@@ -1,4 +1,4 @@
--- `restoring::append_all` meets its contract, by the laws of proofs/Appends.antt. The measure is how many pairs are left. Assumes nothing.
+-- `image::append_all` meets its contract, by the laws of proofs/Appends.antt. The measure is how many pairs are left. Assumes nothing.
 use Prim.Native.Nat.{◌-◌}
 use mathlib.Core.Path.{refl}
 use native.Mathlib.Omega.{arith}
@@ -7,9 +7,9 @@ use lib.ListN.{length}
 use Rattle.steps.specs.State.{limit}
 use Rattle.multimap.specs.Arrays.{Arrays, arrays}
 use Rattle.multimap.specs.Map.{at}
-use Rattle.restoring.proofs.Appends.{Building, building_none, building_one, building_stuck, building_all}
-use Rattle.restoring.proofs.append_all.Statement.{statement}
-use Rattle.restoring.proofs.append_all.Tie as tie
+use Rattle.image.proofs.Appends.{Building, building_none, building_one, building_stuck, building_all}
+use Rattle.image.proofs.append_all.Statement.{statement}
+use Rattle.image.proofs.append_all.Tie as tie
 
 abbrev invariant_loop : tie.invariant_loop
 invariant_loop _ _ _ _ _ _ _ _ _ _ _ members₀ rounds₀ _ ks vs _ _ keys lengths next_key previous_key values key_index next_value previous_value next_index previous_index index members rounds taken _ i =

@@ -7,10 +7,10 @@ use Rattle.steps.specs.Call.{refused, done}
 use Rattle.multimap.specs.Arrays.{Arrays}
 use Rattle.multimap.specs.Map.{state_of}
 use Rattle.multimap.specs.WellLinked.{WellLinked}
-use Rattle.restoring.specs.Reading.{rounds_said, members_said, read_of}
-use Rattle.restoring.specs.Answers.{Reads}
-use Rattle.restoring.specs.declared.Sizes.{Sizes}
-use Rattle.restoring.specs.declared.Sizes.TheVariants.{Right, Refused}
+use Rattle.image.specs.Image.{rounds_said, members_said, read_of}
+use Rattle.image.specs.Answers.{Reads}
+use Rattle.image.specs.declared.Sizes.{Sizes}
+use Rattle.image.specs.declared.Sizes.TheVariants.{Right, Refused}
 
 -- the bytes s say n rounds and m members, no more than the limits l, and are as long as n rounds want
 pub record RightSizes (l : Limits) (s : List ℕ) (n m : ℕ) : Type 0 where

@@ -1,12 +1,12 @@
--- `restoring::four` meets its contract, by the laws of proofs/Numbers.antt. Assumes nothing.
+-- `image::four` meets its contract, by the laws of proofs/Numbers.antt. Assumes nothing.
 use Prim.Native.Nat.{ℕ, ◌+◌, ◌<◌}
 use mathlib.Core.Path.{sym}
 use native.Mathlib.Omega.{arith}
 use lib.ListN.{get_or}
-use Rattle.restoring.proofs.Numbers.{four_is}
+use Rattle.image.proofs.Numbers.{four_is}
 use borrow.Author.Rules.{rules}
-use Rattle.restoring.proofs.four.Statement.{statement}
-use Rattle.restoring.proofs.four.Tie as tie
+use Rattle.image.proofs.four.Statement.{statement}
+use Rattle.image.proofs.four.Tie as tie
 
 -- each byte is below 256
 small : (c : tie.After-shared-slice-known4)

@@ -8,7 +8,7 @@ use lib.Seq.{take-add}
 use Rattle.fnv.specs.Fnv.{bytes}
 use Rattle.steps.specs.State.{Pair}
 use Rattle.image.specs.Bytes.{array, number, numbers, AllBytes, Words}
-use Rattle.restoring.specs.Reading.{pair_up}
+use Rattle.image.specs.Image.{pair_up}
 use Rattle.image.proofs.Layouts.{drop_bytes}
 
 -- ---- written and read

@@ -27,15 +27,15 @@ use Rattle.multimap.specs.Arrays.{Arrays}
 use Rattle.multimap.proofs.Stores.{length_pairs, length_members}
 use Rattle.image.specs.Bytes.{array, layout, number, numbers, AllBytes, Words}
 use Rattle.image.specs.Image.{image_of}
-use Rattle.restoring.specs.Reading.{rounds_said, members_said, pairs_in, pair_up, reading, restored, read_of, Accepted}
+use Rattle.image.specs.Image.{rounds_said, members_said, pairs_in, pair_up, reading, restored, read_of, Accepted}
 use Rattle.image.proofs.Layouts.{drop_bytes, past_sizes, past_members}
 use Rattle.image.proofs.Images.{length_image}
-use Rattle.restoring.proofs.Numbers.{length_numbers}
-use Rattle.restoring.proofs.Appends.{length_paired}
-use Rattle.restoring.proofs.Restores.{read_too_high, read_whole, keys_of, values_of}
-use Rattle.restoring.proofs.Back.{fits_four, number_bytes, numbers_array, long_keys, long_values, paired}
-use Rattle.restoring.proofs.Back.{bytes_number, bytes_at, array_at}
-use Rattle.restoring.proofs.Distinct.{members_counted}
+use Rattle.image.proofs.Numbers.{length_numbers}
+use Rattle.image.proofs.Appends.{length_paired}
+use Rattle.image.proofs.Restores.{read_too_high, read_whole, keys_of, values_of}
+use Rattle.image.proofs.Back.{fits_four, number_bytes, numbers_array, long_keys, long_values, paired}
+use Rattle.image.proofs.Back.{bytes_number, bytes_at, array_at}
+use Rattle.image.proofs.Distinct.{members_counted}
 
 -- ---- what an image says
 

@@ -1,10 +1,10 @@
--- `restoring::read_sizes` meets its contract, by the laws of proofs/Restores.antt. Assumes nothing.
+-- `image::read_sizes` meets its contract, by the laws of proofs/Restores.antt. Assumes nothing.
 use mathlib.Core.Logic.{⊎_elim}
 use borrow.Author.Tests.{lt-ltb, le-ltb, ltb-false}
-use Rattle.restoring.proofs.Restores.{read_short, says_many, says_length}
+use Rattle.image.proofs.Restores.{read_short, says_many, says_length}
 use borrow.Author.Rules.{rules}
-use Rattle.restoring.proofs.read_sizes.Statement.{statement}
-use Rattle.restoring.proofs.read_sizes.Tie as tie
+use Rattle.image.proofs.read_sizes.Statement.{statement}
+use Rattle.image.proofs.read_sizes.Tie as tie
 
 returns : tie.Need-returns
 returns c ok = read_short _ c.before.before.args.s.now ok c.if1.true

@@ -1,9 +1,9 @@
--- `restoring::eight` meets its contract, by the laws of proofs/Numbers.antt. Assumes nothing.
+-- `image::eight` meets its contract, by the laws of proofs/Numbers.antt. Assumes nothing.
 use native.Mathlib.Omega.{arith}
-use Rattle.restoring.proofs.Numbers.{eight_is}
+use Rattle.image.proofs.Numbers.{eight_is}
 use borrow.Author.Rules.{rules}
-use Rattle.restoring.proofs.eight.Statement.{statement}
-use Rattle.restoring.proofs.eight.Tie as tie
+use Rattle.image.proofs.eight.Statement.{statement}
+use Rattle.image.proofs.eight.Tie as tie
 
 four_requires : tie.Need-four-requires
 four_requires c κs = search rules

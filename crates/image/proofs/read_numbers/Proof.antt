@@ -1,10 +1,10 @@
--- `restoring::read_numbers` meets its contract, by the laws of proofs/Numbers.antt. Assumes nothing.
+-- `image::read_numbers` meets its contract, by the laws of proofs/Numbers.antt. Assumes nothing.
 use Prim.Native.Nat.{◌-◌}
 use native.Mathlib.Omega.{arith}
 use borrow.Author.Rules.{rules}
-use Rattle.restoring.proofs.Numbers.{Read, read_none, read_one, read_all}
-use Rattle.restoring.proofs.read_numbers.Statement.{statement}
-use Rattle.restoring.proofs.read_numbers.Tie as tie
+use Rattle.image.proofs.Numbers.{Read, read_none, read_one, read_all}
+use Rattle.image.proofs.read_numbers.Statement.{statement}
+use Rattle.image.proofs.read_numbers.Tie as tie
 
 abbrev invariant_loop : tie.invariant_loop
 invariant_loop s n out₀ i₀ out i = Read s n out i

@@ -22,12 +22,12 @@ use Rattle.multimap.specs.Making.{Made}
 use Rattle.multimap.specs.WellLinked.{WellLinked}
 use Rattle.multimap.proofs.Stores.{length_members}
 use Rattle.image.specs.Bytes.{numbers}
-use Rattle.restoring.specs.Reading.{rounds_said, members_said, pair_up, pairs_in, reading, read_of}
-use Rattle.restoring.specs.Answers.{Reads, Restores}
-use Rattle.restoring.specs.Parts.{RightSizes, Said, Restored, Built}
-use Rattle.restoring.specs.declared.Sizes.{Sizes}
-use Rattle.restoring.specs.declared.Sizes.TheVariants.{Right, Refused}
-use Rattle.restoring.proofs.Numbers.{length_numbers}
+use Rattle.image.specs.Image.{rounds_said, members_said, pair_up, pairs_in, reading, read_of}
+use Rattle.image.specs.Answers.{Reads, Restores}
+use Rattle.image.specs.Parts.{RightSizes, Said, Restored, Built}
+use Rattle.image.specs.declared.Sizes.{Sizes}
+use Rattle.image.specs.declared.Sizes.TheVariants.{Right, Refused}
+use Rattle.image.proofs.Numbers.{length_numbers}
 
 -- ---- members and rounds as pairs
 

@@ -1,10 +1,10 @@
--- `restoring::om_read_image` meets its contract, by the laws of proofs/Restores.antt. Assumes nothing.
+-- `image::om_read_image` meets its contract, by the laws of proofs/Restores.antt. Assumes nothing.
 use Rattle.steps.specs.State.{Limits, limit}
 use Rattle.steps.specs.Proper.{Allowed}
-use Rattle.restoring.proofs.Restores.{made_allowed, restores_too_high, ready, restores_done, restores_sizes, restores_members}
+use Rattle.image.proofs.Restores.{made_allowed, restores_too_high, ready, restores_done, restores_sizes, restores_members}
 use borrow.Author.Rules.{rules}
-use Rattle.restoring.proofs.om_read_image.Statement.{statement}
-use Rattle.restoring.proofs.om_read_image.Tie as tie
+use Rattle.image.proofs.om_read_image.Statement.{statement}
+use Rattle.image.proofs.om_read_image.Tie as tie
 
 -- from the map that is made back to the start
 abbrev begun : tie.After-om-new → tie.Start

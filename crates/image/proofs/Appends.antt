@@ -21,8 +21,8 @@ use Rattle.steps.specs.Told.{Told}
 use Rattle.multimap.specs.Arrays.{Arrays}
 use Rattle.multimap.specs.Map.{at, state_of}
 use Rattle.multimap.specs.WellLinked.{WellLinked, linked}
-use Rattle.restoring.specs.Reading.{pair_up}
-use Rattle.restoring.specs.Parts.{Built}
+use Rattle.image.specs.Image.{pair_up}
+use Rattle.image.specs.Parts.{Built}
 
 -- ---- members and rounds as pairs
 
