@@ -8,8 +8,7 @@ ghost use Rattle.index.specs.Agree.{Decides};
 ghost use Rattle.links.specs.Route.{tally, walk, Route};
 ghost use Rattle.links.specs.Places.{Linked};
 ghost use Rattle.links.specs.Stores.{at};
-ghost use Rattle.multimap.specs.Arrays.{Arrays};
-ghost use Rattle.multimap.specs.Lent.{given};
+ghost use Rattle.multimap.specs.Arrays.{Arrays, arrays};
 ghost use Rattle.multimap.specs.WellLinked.{WellLinked};
 ghost use Rattle.well_linked.specs.Chains.{trail, Inside, Begun, Walked, Ends, Recorded};
 ghost use Rattle.well_linked.specs.Marks.{Marks, list_of};
@@ -28,7 +27,7 @@ pub fn well_linked<'a>(
     next_index: &'a IndexLinks, previous_index: &'a IndexLinks, index: &'a Index,
     members: &'a Counts, rounds: &'a Counts, taken: &'a Taken,
 ) -> bool
-    ensures { let g : Arrays = given keys lengths next_key previous_key values key_index next_value previous_value next_index previous_index index members rounds taken in Decides result (WellLinked g) }
+    ensures { let g : Arrays = arrays keys.now lengths.now next_key.now previous_key.now values.now key_index.now next_value.now previous_value.now next_index.now previous_index.now index.now members.now rounds.now taken.now in Decides result (WellLinked g) }
 {
     let counters: &[u32] = taken;
     let counter = counters[0];
@@ -66,7 +65,7 @@ pub fn om_well_linked<'a>(
     next_index: &'a IndexLinks, previous_index: &'a IndexLinks, index: &'a Index,
     members: &'a Counts, rounds: &'a Counts, taken: &'a Taken,
 ) -> u64
-    ensures { let g : Arrays = given keys lengths next_key previous_key values key_index next_value previous_value next_index previous_index index members rounds taken in Tells result (WellLinked g) }
+    ensures { let g : Arrays = arrays keys.now lengths.now next_key.now previous_key.now values.now key_index.now next_value.now previous_value.now next_index.now previous_index.now index.now members.now rounds.now taken.now in Tells result (WellLinked g) }
 {
     if well_linked(keys, lengths, next_key, previous_key, values, key_index, next_value, previous_value, next_index,
         previous_index, index, members, rounds, taken) { 1 } else { 0 }
