@@ -1,9 +1,10 @@
 #!/usr/bin/env python3
 # What Rust and C are told of libprelgammo.a, from the crates' sources: the `#[repr(C)]` record, and every function that is
-# marked `#[no_mangle] pub extern "C"`.
+# marked `#[unsafe(no_mangle)] pub extern "C"`.
 #   tools/declarations.py             writes the files
-#   tools/declarations.py --check     fails, and says why, if one of them is not as it would write it, or if prelgammo.h does not
-#                                     describe a function
+#   tools/declarations.py --check     fails, and says why, if one of them is not as it would write it, if prelgammo.h does not
+#                                     describe a function, or if an exported function does not promise what the crates' function
+#                                     of its name does
 #   tools/declarations.py --symbol    prints the name that the layout and the signatures give the archive
 # That name has a hash of them. The archive defines it (bindings/library.sh) and the files refer to it, so an archive of another
 # layout does not link.
@@ -25,6 +26,10 @@ WHOLE = 'om_new'
 NUMBERS = {
     'u8': (1, 'uint8_t'), 'u16': (2, 'uint16_t'), 'u32': (4, 'uint32_t'), 'u64': (8, 'uint64_t'), 'usize': (8, 'size_t'),
 }
+# What stands before a struct that C is told of, what before an exported function, and the further attributes of either.
+OTHERS = r'\s*(?:#\[[^\]]*\]\s*)*'
+FOR_C = r'#\[repr\(C\)\]' + OTHERS
+EXPORTED = '#[unsafe(no_mangle)]'
 WIDTH = 120
 
 
@@ -56,6 +61,9 @@ def check(library):
         if library.split(function)[0] and f' {of_map(function)}(' not in described:
             print(f'{DESCRIBED.relative_to(ROOT)} does not describe {of_map(function)}', file=sys.stderr)
             status = 1
+    for name in library.unlike:
+        print(f'the exported {name} does not take and promise, word for word, what the function of its name does', file=sys.stderr)
+        status = 1
     return status
 
 
@@ -133,12 +141,15 @@ class Library:
     fields: list
     functions: list
     arrays: list = field(default_factory=list)
+    # the names of the functions that do not promise what the crates' functions of their names do
+    unlike: list = field(default_factory=list)
 
     @staticmethod
     def read():
         sources = Sources.read()
         functions = sorted(sources.functions(), key=lambda function: function.name)
         library = Library(sources.record(), functions)
+        library.unlike = [f.name for f in functions if sources.stated('pub extern "C" fn', f.name) != sources.stated('pub fn', f.name)]
         library.arrays = arrays(library.fields, next(f for f in functions if f.name == WHOLE))
         lay_out(library.fields)
         return library
@@ -181,14 +192,14 @@ class Sources:
         self.code = re.sub(r'//[^\n]*', '', text)
         named = re.findall(r'^pub type (\w+) = (.*);$', self.code, re.M)
         # a struct of one number has the number's memory
-        named += re.findall(r'#\[repr\(C\)\]\s*pub struct (\w+)\(pub (\w+)\);', self.code)
+        named += re.findall(FOR_C + r'pub struct (\w+)\(pub (\w+)\);', self.code)
         self.types = dict(named)
         if len(self.types) != len(set(named)):
             sys.exit('two crates have types of one name')
 
     @staticmethod
     def read():
-        crates = re.findall(r'^(\w+):', (ROOT / 'crates.txt').read_text(), re.M)
+        crates = re.findall(r'^(\w+)[^:\n]*:', (ROOT / 'crates.txt').read_text(), re.M)
         paths = [path for crate in crates for path in sorted((ROOT / 'crates' / crate / 'src').rglob('*.rt'))]
         return Sources('\n'.join(path.read_text() for path in paths))
 
@@ -203,7 +214,7 @@ class Sources:
         sys.exit(f'{words}: no type that Rust and C are told of')
 
     def record(self):
-        found = re.search(rf'#\[repr\(C\)\]\s*pub struct {RECORD} \{{\n(.*?)\n\}}', self.text, re.S)
+        found = re.search(FOR_C + rf'pub struct {RECORD} \{{\n(.*?)\n\}}', self.text, re.S)
         if not found:
             sys.exit(f'there is no #[repr(C)] struct {RECORD}')
         fields, comments = [], []
@@ -219,12 +230,19 @@ class Sources:
     def functions(self):
         # its name, parameters, what it gives, and the clauses of its contract, up to the body
         form = r'pub extern "C" fn (\w+)(?:<[^>]*>)?\((.*?)\)(?: -> (\w+))?\s*\n(.*?)\n?\{\n'
-        found = re.findall(r'#\[no_mangle\](?:\s*#\[[^\]]*\])*\s*' + form, self.code, re.S)
-        if len(found) != self.code.count('#[no_mangle]'):
-            sys.exit('a function marked #[no_mangle] has another form than those that are known')
-        asks = re.compile(r'requires \{[^}]*\bWellLinked\b')
+        found = re.findall(re.escape(EXPORTED) + OTHERS + form, self.code, re.S)
+        if len(found) != self.code.count(EXPORTED):
+            sys.exit(f'a function marked {EXPORTED} has another form than those that are known')
+        asks = re.compile(r'requires(?: \w+)? \{[^}]*\bWellLinked\b')
         return [Function(name, self.parameters(words), self.given(gives), bool(asks.search(clauses)))
                 for name, words, gives, clauses in found]
+
+    # What a function takes, gives and promises: the text from its name to its body, however it is laid out.
+    def stated(self, words, name):
+        found = re.findall(rf'^{words} {name}\b(.*?)^\{{$', self.code, re.M | re.S)
+        if len(found) != 1:
+            sys.exit(f'there are {len(found)} functions {words} {name}')
+        return re.sub(r'\(\s+', '(', re.sub(r',?\s+\)', ')', ' '.join(found[0].split())))
 
     def given(self, words):
         return words if words in ('', RECORD) else str(self.type(words))
