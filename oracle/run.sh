@@ -55,11 +55,11 @@ quick | full)
     target/oracle/driver "$@"
     ;;
 calls)
-    rt check calls
+    tools/program.sh calls
     target/oracle/driver "$@"
     ;;
 bench)
-    rt check calls
+    tools/program.sh calls
     rustc --version
     target/oracle/driver bench
     echo

@@ -1,6 +1,6 @@
 #!/bin/sh
 # Runs target/bin/calls on every case of tools/calls.py, from a file and in small chunks from a pipe, and compares what it prints with what
-# tools/calls.py says. Build the program first: rt check calls.
+# tools/calls.py says. Build the program first: tools/program.sh calls.
 set -eu
 cd "$(dirname "$0")/.."
 cases=$(mktemp -d)

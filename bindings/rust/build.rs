@@ -30,8 +30,16 @@ fn ready(library: PathBuf) -> PathBuf {
 
 // Only crates that have changed since they were last proved are proved again.
 fn prove(root: &Path) -> PathBuf {
-    for part in ["crates", "crates.txt", "tools/declarations.py"] {
+    for part in ["crates.txt", "tools/declarations.py"] {
         println!("cargo:rerun-if-changed={}", root.join(part).display());
+    }
+    // Not the whole of a crate: rt keeps its own work in out/.
+    for each in fs::read_dir(root.join("crates")).expect("crates/ stands at the top").flatten() {
+        for part in ["src", "specs", "proofs"].map(|name| each.path().join(name)) {
+            if part.exists() {
+                println!("cargo:rerun-if-changed={}", part.display());
+            }
+        }
     }
     match Command::new("sh").arg("bindings/library.sh").current_dir(root).status() {
         Ok(status) if status.success() => root.join("target/bindings/libprelgammo.a"),

@@ -22,7 +22,7 @@ pub fn run(seed: u64) -> bool {
     match compared {
         Ok(alike) => alike.into_iter().all(|alike| alike),
         Err(error) => {
-            eprintln!("{}: {} (rt check calls builds {})", FOLDER, error, CALLS);
+            eprintln!("{}: {} (tools/program.sh calls builds {})", FOLDER, error, CALLS);
             false
         }
     }
