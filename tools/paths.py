@@ -3,13 +3,15 @@
 
   tools/paths.py CRATE FN [NEED ..]
 
-For each NEED (without one: every returns and loop need) the places before it, each with how many steps of .before lead there from
-the need's c, and the facts that stand there. A function of a module file is named FILE/FN. It runs `rt dev CRATE --generated`.
+For each NEED of a Proof.antt (without one: every returns and loop need) the places before it, each with how many steps of .before
+lead there from the need's c, and the facts that stand there. A function of a module file is named FILE/FN. It runs
+`rt check --generated` in the crate's folder. An Answers.antt names the facts without these steps.
 
   tools/paths.py --lets NAME:K NAME:K ..
 
 Prints the lets that name the places K steps back, each from the one before it.
 """
+import pathlib
 import re
 import subprocess
 import sys
@@ -47,8 +49,9 @@ def places(text):
 def show(crate, function, wanted):
     """Prints the way back from each wanted need."""
     folder = tempfile.mkdtemp()
-    subprocess.run(['rt', 'dev', crate, '--generated', folder], capture_output=True, check=False)
-    with open(f'{folder}/Rattle·{crate}·proofs/proofs/{function}/Lts.antt', encoding='utf-8') as file:
+    top = pathlib.Path(__file__).resolve().parent.parent
+    subprocess.run(['rt', 'check', '--generated', folder], cwd=top / 'crates' / crate, capture_output=True, check=False)
+    with open(f'{folder}/Rattle-{crate}-proofs/{function}/Lts.antt', encoding='utf-8') as file:
         before, fields, needs = places(file.read())
     for need, start in needs.items():
         if need not in wanted if wanted else not re.match(r'returns|loop', need):
@@ -58,7 +61,7 @@ def show(crate, function, wanted):
         while place:
             facts = [f for f in fields.get(place, []) if f != 'before']
             if place in (start, 'Start') or not re.search(r'-arg\d*$', place):
-                own = ' '.join(fields.get(place + '·own', [])[:8])
+                own = ' '.join(fields.get('Own-' + place, [])[:8])
                 print(f'  {steps:3} back  {place}: {" ".join(facts)}{" (" + own + ")" if own else ""}')
             place, steps = before.get(place), steps + 1
 
