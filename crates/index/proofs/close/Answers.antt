@@ -1,12 +1,8 @@
 -- `index::close` meets its contract. The loop's invariant: the table with its gap, over whatever list the index held.
 -- Assumes nothing.
-use mathlib.Core.Path.{◌≡◌, ◌∙◌, ap}
-use mathlib.Core.Logic.{⊎_elim}
-use Prim.Native.Nat.{ℕ, ◌-◌}
 use native.Mathlib.Omega.{arith}
 use borrow.Author.Rules.{rules}
-use lib.ListN.{get_or}
-use Rattle.index.specs.Table.{dist, home}
+use Rattle.index.specs.Table.{home}
 use Rattle.index.proofs.Cycle.{dist_lt}
 use Rattle.index.proofs.Search.{at_home}
 use Rattle.index.proofs.Table.{spare}
@@ -36,12 +32,6 @@ loop-looked-preserved c =
     let a = c.args in
     let l = c.loop-looked in
     let full = c.if-key-ge-KEYS.false in
-    let up : c.steps.result ≡ dist (home (get_or a.keys.now (get_or l.index l.next 0) 0)) l.gap =
-    c.steps.ensures ∙ ap (λ (y : ℕ). dist y l.gap) c.start-home.ensures
-    in
-    let up2 : c.steps-in-loop-looked.result ≡ dist (home (get_or a.keys.now (get_or l.index l.next 0) 0)) l.next =
-    c.steps-in-loop-looked.ensures ∙ ap (λ (y : ℕ). dist y l.next) c.start-home.ensures
-    in
     elim c.if-steps.branch [
       then-steps w ↦
         rw (w.index-is, w.gap-is) (
@@ -50,7 +40,7 @@ loop-looked-preserved c =
           omega arith,
           λ ks h occ.
               moved a.keys.now ks _ a.at (spare h).0 c.requires (spare h).1 l.index l.gap l.next l.looked
-              (l.invariant.3 ks h occ) full (rw (up, up2) at w.if-steps.true),
+              (l.invariant.3 ks h occ) full (rw (c.steps.ensures, c.steps-in-loop-looked.ensures, c.start-home.ensures) at w.if-steps.true),
         )
       | else-steps w ↦
         rw (w.index-is, w.gap-is) (
@@ -59,7 +49,7 @@ loop-looked-preserved c =
           omega arith,
           λ ks h occ.
               skipped a.keys.now ks _ a.at (spare h).0 c.requires (spare h).1 l.index l.gap l.next l.looked
-              (l.invariant.3 ks h occ) full (rw (up2, up) at w.if-steps.false),
+              (l.invariant.3 ks h occ) full (rw (c.steps.ensures, c.steps-in-loop-looked.ensures, c.start-home.ensures) at w.if-steps.false),
         )
     ]
 
