@@ -6,8 +6,7 @@ use mathlib.Core.List.{List, [], ◌∷◌}
 use lib.ListN.{get_or}
 use lib.Dec.{eqb, ltb}
 use borrow.Author.Tests.{eq-eqb, ne_eqb}
-use denote.Enum.Declared.{tag_of}
-use types.Run.{OneOf, miss}
+use native.Mathlib.Omega.{arith}
 use Rattle.steps.specs.State.{State, present, full, crowded}
 use Rattle.steps.specs.Call as C
 use Rattle.steps.specs.Call.{Call, Outcome, packs}
@@ -20,8 +19,7 @@ use Rattle.steps.proofs.Coded.{decoded_coded}
 use Rattle.steps.proofs.Doing.{does_as}
 use Rattle.answers.specs.Answers.{answer_of}
 use Rattle.answers.specs.declared.Answer.{Answer}
-use Rattle.answers.specs.contracts.Answer.{the_type}
-use Rattle.answers.proofs.Reading.{tag_is}
+use Rattle.answers.specs.declared.Answer.TheVariants.{Refused, Nothing, Done, Round, Count, Present, Popped, Occupied, Vacant}
 use Rattle.entries.specs.Done.{done_unless, DoneUnless}
 
 -- ---- the steps
@@ -58,41 +56,46 @@ occupied_remove_is k s h = rw h refl
 
 -- ---- the answer of `entry`
 
--- by the variant that the code is told: Occupied has the position 7, Vacant 8
-module _ (a : Answer) (b : Bool) (k : ℕ) (s : State) (e : answer_of a ≡ entry_of b k s) where
-  tag : tag_of the_type a ≡ cond b 7 8
-  tag = tag_is a ∙ ap (λ (x : C.Answer). get_or (coded x) 0 0) e ∙ position b
-    where
-      position : (b : Bool) → get_or (coded (entry_of b k s)) 0 0 ≡ cond b 7 8
-      position true = refl
-      position false = refl
+-- an answer that stands for an entry is that entry
+occupied_back : (a : Answer) (n : ℕ) → answer_of a ≡ C.occupied n → a ≡ Occupied n
+occupied_back (Refused m) n e = cc
+occupied_back Nothing n e = cc
+occupied_back Done n e = cc
+occupied_back (Round v) n e = cc
+occupied_back (Count m) n e = cc
+occupied_back (Present b) n e = cc
+occupied_back (Popped k v gone) n e = cc
+occupied_back (Occupied m) n e = cc
+occupied_back (Vacant k) n e = cc
 
-  told : (ks : List ℕ) → OneOf ks (tag_of the_type a) → OneOf ks (cond b 7 8)
-  told ks h = subst (OneOf ks) tag h
+vacant_back : (a : Answer) (k : ℕ) → answer_of a ≡ C.vacant k → a ≡ Vacant k
+vacant_back (Refused m) k e = cc
+vacant_back Nothing k e = cc
+vacant_back Done k e = cc
+vacant_back (Round v) k e = cc
+vacant_back (Count m) k e = cc
+vacant_back (Present b) k e = cc
+vacant_back (Popped j v gone) k e = cc
+vacant_back (Occupied m) k e = cc
+vacant_back (Vacant j) k e = cc
 
 -- Occupied, or any other
-pub is_occupied : (a : Answer) (b : Bool) (k : ℕ) (s : State) → answer_of a ≡ entry_of b k s → OneOf (7 ∷ []) (tag_of the_type a) → b ≡ true
+pub is_occupied : (a : Answer) (b : Bool) (k : ℕ) (s : State) → answer_of a ≡ entry_of b k s → {n : ℕ} → a ≡ Occupied n → b ≡ true
 is_occupied a true k s e h = refl
-is_occupied a false k s e h = absurd (miss (7 ∷ []) 8 tt (told a false k s e (7 ∷ []) h))
+is_occupied a false k s e {n} h = let z : C.occupied n ≡ C.vacant k = ap answer_of (sym h) ∙ e in cc
 
-abbrev pub not7 : List ℕ
-not7 = 0 ∷ 1 ∷ 2 ∷ 3 ∷ 4 ∷ 5 ∷ 6 ∷ 8 ∷ []
-
-pub not_occupied : (a : Answer) (b : Bool) (k : ℕ) (s : State) → answer_of a ≡ entry_of b k s → OneOf not7 (tag_of the_type a) → b ≡ false
-not_occupied a true k s e h = absurd (miss not7 7 tt (told a true k s e not7 h))
+pub not_occupied : (a : Answer) (b : Bool) (k : ℕ) (s : State) → answer_of a ≡ entry_of b k s → ((n : ℕ) → a ≡ Occupied n → ⊥) → b ≡ false
+not_occupied a true k s e h = absurd (h _ (occupied_back a _ e))
 not_occupied a false k s e h = refl
 
 -- Vacant, or any other
-pub is_vacant : (a : Answer) (b : Bool) (k : ℕ) (s : State) → answer_of a ≡ entry_of b k s → OneOf (8 ∷ []) (tag_of the_type a) → b ≡ false
-is_vacant a true k s e h = absurd (miss (8 ∷ []) 7 tt (told a true k s e (8 ∷ []) h))
+pub is_vacant : (a : Answer) (b : Bool) (k : ℕ) (s : State) → answer_of a ≡ entry_of b k s → {n : ℕ} → a ≡ Vacant n → b ≡ false
+is_vacant a true k s e {n} h = let z : C.vacant n ≡ entry_of true k s = ap answer_of (sym h) ∙ e in cc
 is_vacant a false k s e h = refl
 
-abbrev pub not8 : List ℕ
-not8 = 0 ∷ 1 ∷ 2 ∷ 3 ∷ 4 ∷ 5 ∷ 6 ∷ 7 ∷ []
-
-pub not_vacant : (a : Answer) (b : Bool) (k : ℕ) (s : State) → answer_of a ≡ entry_of b k s → OneOf not8 (tag_of the_type a) → b ≡ true
+pub not_vacant : (a : Answer) (b : Bool) (k : ℕ) (s : State) → answer_of a ≡ entry_of b k s → ((n : ℕ) → a ≡ Vacant n → ⊥) → b ≡ true
 not_vacant a true k s e h = refl
-not_vacant a false k s e h = absurd (miss not8 8 tt (told a false k s e not8 h))
+not_vacant a false k s e h = absurd (h _ (vacant_back a _ e))
 
 -- ---- the numbers of an answer, and what is told
 
@@ -107,20 +110,30 @@ refused_number (C.popped k v b) = refl
 refused_number (C.occupied n) = refl
 refused_number (C.vacant k) = refl
 
-abbrev pub not0 : List ℕ
-not0 = 1 ∷ 2 ∷ 3 ∷ 4 ∷ 5 ∷ 6 ∷ 7 ∷ 8 ∷ []
+-- no answer but a refusal has 0 for its first number
+refused_back : (r : Answer) → ((n : ℕ) → r ≡ Refused n → ⊥) → get_or (coded (answer_of r)) 0 0 ≡ 0 → ⊥
+refused_back (Refused n) z e = z n refl
+refused_back Nothing z e = omega (arith, e)
+refused_back Done z e = omega (arith, e)
+refused_back (Round v) z e = omega (arith, e)
+refused_back (Count n) z e = omega (arith, e)
+refused_back (Present b) z e = omega (arith, e)
+refused_back (Popped k v gone) z e = omega (arith, e)
+refused_back (Occupied n) z e = omega (arith, e)
+refused_back (Vacant k) z e = omega (arith, e)
 
 -- the answer r was read from these numbers
 module _ (r : Answer) (ns : List ℕ) (e : answer_of r ≡ decoded ns) where
-  number : (a : C.Answer) → ns ≡ coded a → tag_of the_type r ≡ get_or (coded a) 0 0
-  number a h = tag_is r ∙ ap (λ (x : C.Answer). get_or (coded x) 0 0) (e ∙ ap decoded h ∙ decoded_coded a)
+  number : (a : C.Answer) → ns ≡ coded a → get_or (coded (answer_of r)) 0 0 ≡ get_or (coded a) 0 0
+  number a h = ap (λ (x : C.Answer). get_or (coded x) 0 0) (e ∙ ap decoded h ∙ decoded_coded a)
 
-  pub refusal_stays : OneOf (0 ∷ []) (tag_of the_type r) → DoneUnless ns ns
-  refusal_stays z a h = h ∙ simp (refused_number a ∙ eq-eqb (get_or (coded a) 0 0) 0 (sym (number a h) ∙ z))
+  pub refusal_stays : {n : ℕ} → r ≡ Refused n → DoneUnless ns ns
+  refusal_stays z a h =
+      h ∙ simp (refused_number a ∙ eq-eqb (get_or (coded a) 0 0) 0 (sym (number a h) ∙ ap (λ (x : Answer). get_or (coded (answer_of x)) 0 0) z))
 
-  pub else_done : OneOf not0 (tag_of the_type r) → {ns' : List ℕ} → ns' ≡ coded C.done → DoneUnless ns ns'
+  pub else_done : ((n : ℕ) → r ≡ Refused n → ⊥) → {ns' : List ℕ} → ns' ≡ coded C.done → DoneUnless ns ns'
   else_done z i a h =
-      i ∙ simp (refused_number a ∙ ne_eqb (get_or (coded a) 0 0) 0 (λ j. miss not0 0 tt (subst (OneOf not0) (number a h ∙ j) z)))
+      i ∙ simp (refused_number a ∙ ne_eqb (get_or (coded a) 0 0) 0 (λ j. refused_back r z (number a h ∙ j)))
 
 still_refused : (a : C.Answer) → is_refused (done_unless a) ≡ true → is_refused a ≡ true
 still_refused a h = go (is_refused a) refl
