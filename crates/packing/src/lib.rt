@@ -222,10 +222,8 @@ fn copy_members<'a>(
     numbers: &mut Keys,
     ranks: &mut Lengths,
 )
-    ghost ks: { List ℕ }
-    requires members_value { listed next_key.now 256 members.now ≡ ks }
-    requires distinct { Distinct ks 256 × (length numbers.old ≡ 256) × (length ranks.old ≡ 256) }
-    ensures { MembersCopied keys.now ks (length ks) numbers.new ranks.new }
+    requires { Distinct (listed next_key.now 256 members.now) 256 × (length numbers.old ≡ 256) × (length ranks.old ≡ 256) }
+    ensures { let ks : List ℕ = listed next_key.now 256 members.now in MembersCopied keys.now ks (length ks) numbers.new ranks.new }
 {
     let held = links::get(members, 0);
     let mut x = KeyPlace(links::get(next_key, MEMBERS));
@@ -249,10 +247,8 @@ fn copy_rounds<'a>(
     owners: &mut KeyIndex,
     scores: &mut Values,
 )
-    ghost vs: { List ℕ }
-    requires rounds_value { listed next_value.now 1024 rounds.now ≡ vs }
-    requires distinct { Distinct vs 1024 × (length owners.old ≡ 1024) × (length scores.old ≡ 1024) }
-    ensures { RoundsCopied values.now key_index.now ranks.now vs (length vs) owners.new scores.new }
+    requires { Distinct (listed next_value.now 1024 rounds.now) 1024 × (length owners.old ≡ 1024) × (length scores.old ≡ 1024) }
+    ensures { let vs : List ℕ = listed next_value.now 1024 rounds.now in RoundsCopied values.now key_index.now ranks.now vs (length vs) owners.new scores.new }
 {
     let held = links::get(rounds, 0);
     let mut x = multimap::after(next_value, ValuePlace(ROUNDS));
