@@ -5,7 +5,7 @@
 --     all-next       calls of `next` alone give the rounds in order, and then none
 --     all_back       calls of `next_back` alone give them in reverse order, and then none
 -- Assumes nothing.
-use Prim.Native.Nat.{ℕ, zero, suc, ◌+◌, ◌-◌, min}
+use Prim.Native.Nat.{ℕ, zero, suc, ◌-◌, min}
 use mathlib.Core.Path.{◌≡◌, refl, sym, ◌∙◌, ap, subst}
 use mathlib.Core.Bool.{Bool, true, false, not}
 use mathlib.Core.List.{List, [], ◌∷◌, ◌++◌, map, tail, drop_last, reverse, reverse-cons, reverse-append, append-nil, append_assoc}

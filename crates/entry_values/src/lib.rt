@@ -1,6 +1,5 @@
 // The rounds of one record, given from either end (document 01, module 5): a struct that holds the filled part of a slice and two ends,
-// and thin functions over it. The borrow checker covers no function over a struct that holds a reference, so each of these is proved
-// by hand and leaves the work to a function of a slice and numbers.
+// and thin functions over it. Each of these leaves the work to a function of a slice and numbers.
 
 #![tactic(auto)]
 
@@ -117,8 +116,7 @@ pub fn next_back<'s, 'a>(e: &'s mut EntryValues<'a>) -> Got
 }
 
 // Makes a mix of calls on one reader of the first `count` of a slice, a byte for each: 0 is `next`, any other `next_back`. The rounds that the
-// calls give are written out in order, and the answer is their number: the calls after these answered none. Who calls it needs no proof by
-// hand, since no reader is among its parameters.
+// calls give are written out in order, and the answer is their number: the calls after these answered none. No reader is among its parameters.
 pub fn mix(slice: &[u64], count: usize, order: &[u8], out: &mut [u64]) -> usize
     ensures { Mixed (marks order.now) (filled_part count slice.now) out.old result out.new }
 {
