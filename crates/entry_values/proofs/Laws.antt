@@ -1,8 +1,8 @@
 -- Laws of a mix of calls on one reader:
---     run-answers    the answers of a run of calls, and what is not given after it, are those that the definitions on the list give
---     every-mix      a run gives every round once, from its end, and then none for ever
+--     run_answers    the answers of a run of calls, and what is not given after it, are those that the definitions on the list give
+--     every_mix      a run gives every round once, from its end, and then none for ever
 --     mirrored       a mix on a list in reverse answers what the mix with all marks turned answers on the list
---     all-next       calls of `next` alone give the rounds in order, and then none
+--     all_next       calls of `next` alone give the rounds in order, and then none
 --     all_back       calls of `next_back` alone give them in reverse order, and then none
 -- Assumes nothing.
 use Prim.Native.Nat.{ℕ, zero, suc, ◌-◌, min}

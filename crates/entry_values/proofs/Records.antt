@@ -1,9 +1,9 @@
 -- A reader of what get_all wrote out gives the member's record, of any kind of map whose get_all does its step:
---     filled-record      what get_all filled, where it answered a count, is the record
---     whole-record       that is what a new reader of it has to give
---     record-mix         a run of calls on the reader answers what the definition gives on the record
---     record-forward     calls of `next` alone give the record in order, and then none
---     record-backward    calls of `next_back` alone give it in reverse order, and then none
+--     filled_record      what get_all filled, where it answered a count, is the record
+--     whole_record       that is what a new reader of it has to give
+--     record_mix         a run of calls on the reader answers what the definition gives on the record
+--     record_forward     calls of `next` alone give the record in order, and then none
+--     record_backward    calls of `next_back` alone give it in reverse order, and then none
 -- Assumes nothing.
 use Prim.Native.Nat.{ℕ, ◌-◌}
 use mathlib.Core.Path.{◌≡◌, sym, ◌∙◌, ap}
