@@ -1,7 +1,7 @@
 #!/bin/sh
 # Builds the Rust crate that the port is compared with: list_ordered_multimap.rs of ordered-multimap 0.7.3 as published,
 # over Debian's dlv-list and hashbrown, as target/oracle/libordered_multimap.rlib. Nothing is written outside target/ and
-# oracle/debs/, which keeps what was fetched, since the gate empties target/. ORACLE_SOURCE names the source file where it does
+# oracle/debs/, which keeps what was fetched. ORACLE_SOURCE names the source file where it does
 # not stand beside the work tree. The file may end with an attribute of something that is not in it, or without.
 set -eu
 
