@@ -7,7 +7,7 @@ ghost use Rattle.std.specs.Prelude.{◌≡◌, []};
 ghost use Rattle.steps.specs.State.{limit};
 ghost use Rattle.steps.specs.Call as C;
 ghost use Rattle.steps.specs.Told.{Told};
-ghost use Rattle.multimap.specs.Arrays.{Arrays, arrays_of};
+ghost use Rattle.multimap.specs.Arrays.{Arrays, arrays, arrays_of};
 ghost use Rattle.multimap.specs.Lent.{given, lent, left};
 ghost use Rattle.multimap.specs.Making.{Made};
 ghost use Rattle.multimap.specs.WellLinked.{WellLinked, linked};
@@ -502,7 +502,7 @@ pub extern "C" fn om_well_linked<'a>(
     next_index: &'a IndexLinks, previous_index: &'a IndexLinks, index: &'a Index,
     members: &'a Counts, rounds: &'a Counts, taken: &'a Taken,
 ) -> u64
-    ensures { let g : Arrays = given keys lengths next_key previous_key values key_index next_value previous_value next_index previous_index index members rounds taken in Tells result (WellLinked g) }
+    ensures { let g : Arrays = arrays keys.now lengths.now next_key.now previous_key.now values.now key_index.now next_value.now previous_value.now next_index.now previous_index.now index.now members.now rounds.now taken.now in Tells result (WellLinked g) }
 {
     well_linked::om_well_linked(
         keys, lengths, next_key, previous_key, values, key_index, next_value, previous_value,
