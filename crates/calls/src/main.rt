@@ -3,27 +3,38 @@
 
 #![tactic(auto)]
 
-ghost use Rattle.std.specs.Prelude.{◌≤◌, ◌≡◌, length};
+ghost use Rattle.std.specs.Prelude.{◌≤◌, ◌≡◌, length, IfOk};
 ghost use Rattle.multimap.specs.Arrays.{Arrays};
 ghost use Rattle.multimap.specs.Lent.{lent, left};
 ghost use Rattle.multimap.specs.WellLinked.{WellLinked};
 ghost use Rattle.printing.specs.Said.{Roomy};
 
-use libc::{STDERR_FILENO, STDIN_FILENO, STDOUT_FILENO};
+use anyhow::{Context, Result};
 use multimap::{
     Counts, Index, IndexLinks, KeyIndex, KeyLinks, Keys, Lengths, Taken, ValueLinks, Values,
 };
+use std::env::{Env, FillError};
+use std::io::Read;
 
-fn main() {
-    if 1 < os::arg_count() {
-        io::write_all(STDERR_FILENO, b"usage: calls < lines > answers\n");
-        return;
+fn main(rt: HostRuntime) -> Result<()> {
+    if has_argument(&rt) {
+        eprintln!(rt; "usage: calls < lines > answers")?;
+        return Ok(());
     }
-    answer_on_new_map();
+    answer_on_new_map(&rt, &mut rt.stdin())
+}
+
+// Says whether the program was given an argument.
+fn has_argument(rt: &impl Env) -> bool {
+    let mut first = [0u8; 1];
+    match rt.arg(1, &mut first) {
+        Err(FillError::NotPresent) => false,
+        _ => true,
+    }
 }
 
 #[rattlefmt::skip]
-fn answer_on_new_map() {
+fn answer_on_new_map(rt: &impl Print, input: &mut impl Read) -> Result<()> {
     let mut keys = [0u64; 256];
     let mut lengths = [0u16; 256];
     let mut next_key = [0u16; 257];
@@ -45,72 +56,60 @@ fn answer_on_new_map() {
         256, 1024, &mut made,
     );
     answer_input(
-        &mut keys, &mut lengths, &mut next_key, &mut previous_key, &mut values, &mut key_index, &mut next_value,
+        rt, input, &mut keys, &mut lengths, &mut next_key, &mut previous_key, &mut values, &mut key_index, &mut next_value,
         &mut previous_value, &mut next_index, &mut previous_index, &mut index, &mut members, &mut rounds, &mut taken,
-    );
+    )
 }
 
-// Answers standard input chunk by chunk, until it ends. A proved loop has to end, and nothing says that the input does: the turns are counted
+// Answers the input chunk by chunk, until it ends. A proved loop has to end, and nothing says that the input does: the turns are counted
 // down from a number that no run uses up.
 #[rattlefmt::skip]
 fn answer_input(
+    rt: &impl Print, input: &mut impl Read,
     keys: &mut Keys, lengths: &mut Lengths, next_key: &mut KeyLinks, previous_key: &mut KeyLinks,
     values: &mut Values, key_index: &mut KeyIndex, next_value: &mut ValueLinks, previous_value: &mut ValueLinks,
     next_index: &mut IndexLinks, previous_index: &mut IndexLinks, index: &mut Index,
     members: &mut Counts, rounds: &mut Counts, taken: &mut Taken,
-)
+) -> Result<()>
     requires { WellLinked (lent keys lengths next_key previous_key values key_index next_value previous_value next_index previous_index index members rounds taken) }
 {
-    let mut input = io::large_buffer();
-    let mut out = io::large_buffer();
+    let mut chunk = [0u8; 65536];
+    let mut out = [0u8; 65536];
     let mut line = [0u8; 1101];
     let mut held = 0;
     let mut more = true;
     let mut turns = u64::MAX;
     while more {
         if turns < 1 {
-            return;
+            return Ok(());
         }
         turns -= 1;
-        let got = read_input(&mut input);
-        if !got.ok {
-            return;
-        }
-        let n = got.count;
-        let next = answer_all(
-            keys, lengths, next_key, previous_key, values, key_index, next_value, previous_value,
+        let n = read_input(input, &mut chunk)?;
+        held = answer_all(
+            rt, keys, lengths, next_key, previous_key, values, key_index, next_value, previous_value,
             next_index, previous_index, index, members, rounds, taken,
-            &input[..n], &mut line, held, &mut out,
-        );
-        if !next.ok {
-            return;
-        }
-        held = next.held;
+            &chunk[..n], &mut line, held, &mut out,
+        )?;
         more = 0 < n;
     }
     let used = lines::answer_rest(
         keys, lengths, next_key, previous_key, values, key_index, next_value, previous_value,
         next_index, previous_index, index, members, rounds, taken, &line, held, &mut out,
     );
-    write_output(&out[..used]);
+    write_output(rt, &out[..used])
 }
 
-// How many bytes of the unfinished line are held, and whether the answers were written.
-#[derive(Drop)]
-struct Served {
-    held: usize,
-    ok: bool,
-}
-
-// Answers each line that ends in the chunk, and writes the answers before the next read may wait.
+// Answers each line that ends in the chunk, and writes the answers before the next read may wait. Gives how many bytes of the unfinished
+// line are held.
 #[rattlefmt::skip]
 fn answer_all(
+    rt: &impl Print,
     keys: &mut Keys, lengths: &mut Lengths, next_key: &mut KeyLinks, previous_key: &mut KeyLinks,
     values: &mut Values, key_index: &mut KeyIndex, next_value: &mut ValueLinks, previous_value: &mut ValueLinks,
     next_index: &mut IndexLinks, previous_index: &mut IndexLinks, index: &mut Index,
     members: &mut Counts, rounds: &mut Counts, taken: &mut Taken,
     chunk: &[u8], line: &mut [u8; 1101], held: usize, out: &mut [u8],
-) -> Served
+) -> Result<usize>
     requires { WellLinked (lent keys lengths next_key previous_key values key_index next_value previous_value next_index previous_index index members rounds taken) × Roomy out.old }
     ensures { WellLinked (left keys lengths next_key previous_key values key_index next_value previous_value next_index previous_index index members rounds taken) }
 {
@@ -123,41 +122,21 @@ fn answer_all(
             &chunk[at..], line, kept, out,
         );
         let used = next.used;
-        if !write_output(&out[..used]) {
-            return Served { held: 0, ok: false };
-        }
+        write_output(rt, &out[..used])?;
         kept = next.held;
         at += next.eaten;
     }
-    Served { held: kept, ok: true }
+    Ok(kept)
 }
 
-// How many bytes were read, and whether reading went well. The input has ended where there are none.
-#[derive(Drop)]
-struct Got {
-    count: usize,
-    ok: bool,
-}
-
-fn read_input(input: &mut [u8]) -> Got
-    ensures { result.count ≤ length input.new }
+// Reads some bytes, and gives how many. The input has ended where there are none.
+fn read_input(input: &mut impl Read, chunk: &mut [u8]) -> Result<usize>
+    ensures { IfOk result (λ n. n ≤ length chunk.new) }
 {
-    let got = libc::read(STDIN_FILENO, input);
-    if got < 0 {
-        os::fail(b"calls: standard input");
-        return Got {
-            count: 0,
-            ok: false,
-        };
-    }
-    let count = io::count(got, input);
-    Got { count, ok: true }
+    let n = input.read(chunk).context("calls: standard input")?;
+    Ok(n)
 }
 
-fn write_output(bytes: &[u8]) -> bool {
-    if io::write_all(STDOUT_FILENO, bytes) {
-        return true;
-    }
-    os::fail(b"calls: standard output");
-    false
+fn write_output(rt: &impl Print, bytes: &[u8]) -> Result<()> {
+    rt.write_all(bytes).context("calls: standard output")
 }

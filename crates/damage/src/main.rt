@@ -5,24 +5,24 @@
 ghost use Rattle.multimap.specs.Lent.{left};
 ghost use Rattle.multimap.specs.WellLinked.{WellLinked};
 
-use libc::STDOUT_FILENO;
 use multimap::{
     Counts, Index, IndexLinks, KeyIndex, KeyLinks, Keys, Lengths, Taken, ValueLinks, Values,
 };
+use std::io;
 
-fn main() {
-    damaged(b"as it is", Array::None, 0, 0);
-    damaged(b"the empty map", Array::All, 0, 0);
-    rounds();
-    round_counts();
-    members();
-    member_counts();
-    limits();
-    owners();
-    records();
-    damaged(b"a member without a round", Array::Owner, 0, 0);
-    index_places();
-    no_damage();
+fn main(rt: HostRuntime) -> io::Result<()> {
+    damaged(&rt, "as it is", Array::None, 0, 0)?;
+    damaged(&rt, "the empty map", Array::All, 0, 0)?;
+    rounds(&rt)?;
+    round_counts(&rt)?;
+    members(&rt)?;
+    member_counts(&rt)?;
+    limits(&rt)?;
+    owners(&rt)?;
+    records(&rt)?;
+    damaged(&rt, "a member without a round", Array::Owner, 0, 0)?;
+    index_places(&rt)?;
+    no_damage(&rt)
 }
 
 // A map's array in which a place is damaged; or none, the owner of a round with all that tells it, or all of them.
@@ -172,26 +172,27 @@ fn store(
 // Prints what was done and what the check says of the map.
 #[rattlefmt::skip]
 fn say<'a>(
-    what: &[u8],
+    rt: &impl Print,
+    what: &str,
     keys: &'a Keys, lengths: &'a Lengths, next_key: &'a KeyLinks, previous_key: &'a KeyLinks,
     values: &'a Values, key_index: &'a KeyIndex, next_value: &'a ValueLinks, previous_value: &'a ValueLinks,
     next_index: &'a IndexLinks, previous_index: &'a IndexLinks, index: &'a Index,
     members: &'a Counts, rounds: &'a Counts, taken: &'a Taken,
-) {
-    io::write_all(STDOUT_FILENO, what);
+) -> io::Result<()> {
+    print!(rt; "{what}")?;
     if well_linked::well_linked(
         keys, lengths, next_key, previous_key, values, key_index, next_value, previous_value,
         next_index, previous_index, index, members, rounds, taken,
     ) {
-        io::write_all(STDOUT_FILENO, b": yes\n");
+        println!(rt; ": yes")
     } else {
-        io::write_all(STDOUT_FILENO, b": no\n");
+        println!(rt; ": no")
     }
 }
 
 // Prints what the check says of the sample once it is damaged.
 #[rattlefmt::skip]
-fn damaged(what: &[u8], array: Array, at: usize, v: u64) {
+fn damaged(rt: &impl Print, what: &str, array: Array, at: usize, v: u64) -> io::Result<()> {
     let mut keys = [0u64; 256];
     let mut lengths = [0u16; 256];
     let mut next_key = [0u16; 257];
@@ -215,110 +216,141 @@ fn damaged(what: &[u8], array: Array, at: usize, v: u64) {
         &mut next_index, &mut previous_index, &mut index, &mut members, &mut rounds, &mut taken, array, at, v,
     );
     say(
-        what,
+        rt, what,
         &keys, &lengths, &next_key, &previous_key, &values, &key_index, &next_value, &previous_value,
         &next_index, &previous_index, &index, &members, &rounds, &taken,
-    );
+    )
 }
 
 // Damages the list of rounds.
-fn rounds() {
-    damaged(b"next_value[1024] = 1", Array::NextValue, 1024, 1);
-    damaged(b"next_value[0] = 2", Array::NextValue, 0, 2);
-    damaged(b"next_value[2] = 0", Array::NextValue, 2, 0);
-    damaged(b"previous_value[1024] = 1", Array::PreviousValue, 1024, 1);
-    damaged(b"previous_value[0] = 0", Array::PreviousValue, 0, 0);
-    damaged(b"previous_value[2] = 0", Array::PreviousValue, 2, 0);
+fn rounds(rt: &impl Print) -> io::Result<()> {
+    damaged(rt, "next_value[1024] = 1", Array::NextValue, 1024, 1)?;
+    damaged(rt, "next_value[0] = 2", Array::NextValue, 0, 2)?;
+    damaged(rt, "next_value[2] = 0", Array::NextValue, 2, 0)?;
+    damaged(
+        rt,
+        "previous_value[1024] = 1",
+        Array::PreviousValue,
+        1024,
+        1,
+    )?;
+    damaged(rt, "previous_value[0] = 0", Array::PreviousValue, 0, 0)?;
+    damaged(rt, "previous_value[2] = 0", Array::PreviousValue, 2, 0)
 }
 
 // Damages how many round places are in use and have ever been, and the first freed one.
-fn round_counts() {
-    damaged(b"values_len = 2", Array::Rounds, 0, 2);
-    damaged(b"values_len = 4", Array::Rounds, 0, 4);
-    damaged(b"values_fresh = 2", Array::Rounds, 1, 2);
-    damaged(b"values_fresh = 5", Array::Rounds, 1, 5);
-    damaged(b"values_free = 0", Array::Rounds, 2, 0);
-    damaged(b"values_free = 4", Array::Rounds, 2, 4);
+fn round_counts(rt: &impl Print) -> io::Result<()> {
+    damaged(rt, "values_len = 2", Array::Rounds, 0, 2)?;
+    damaged(rt, "values_len = 4", Array::Rounds, 0, 4)?;
+    damaged(rt, "values_fresh = 2", Array::Rounds, 1, 2)?;
+    damaged(rt, "values_fresh = 5", Array::Rounds, 1, 5)?;
+    damaged(rt, "values_free = 0", Array::Rounds, 2, 0)?;
+    damaged(rt, "values_free = 4", Array::Rounds, 2, 4)
 }
 
 // Damages the list of members.
-fn members() {
-    damaged(b"next_key[256] = 1", Array::NextKey, 256, 1);
-    damaged(b"next_key[0] = 0", Array::NextKey, 0, 0);
-    damaged(b"next_key[1] = 0", Array::NextKey, 1, 0);
-    damaged(b"previous_key[256] = 0", Array::PreviousKey, 256, 0);
-    damaged(b"previous_key[0] = 0", Array::PreviousKey, 0, 0);
-    damaged(b"previous_key[1] = 256", Array::PreviousKey, 1, 256);
+fn members(rt: &impl Print) -> io::Result<()> {
+    damaged(rt, "next_key[256] = 1", Array::NextKey, 256, 1)?;
+    damaged(rt, "next_key[0] = 0", Array::NextKey, 0, 0)?;
+    damaged(rt, "next_key[1] = 0", Array::NextKey, 1, 0)?;
+    damaged(rt, "previous_key[256] = 0", Array::PreviousKey, 256, 0)?;
+    damaged(rt, "previous_key[0] = 0", Array::PreviousKey, 0, 0)?;
+    damaged(rt, "previous_key[1] = 256", Array::PreviousKey, 1, 256)
 }
 
 // Damages the counts of member places.
-fn member_counts() {
-    damaged(b"keys_len = 1", Array::Members, 0, 1);
-    damaged(b"keys_len = 3", Array::Members, 0, 3);
-    damaged(b"keys_fresh = 1", Array::Members, 1, 1);
-    damaged(b"keys_fresh = 257", Array::Members, 1, 257);
-    damaged(b"keys_free = 1", Array::Members, 2, 1);
-    damaged(b"keys_free = 3", Array::Members, 2, 3);
+fn member_counts(rt: &impl Print) -> io::Result<()> {
+    damaged(rt, "keys_len = 1", Array::Members, 0, 1)?;
+    damaged(rt, "keys_len = 3", Array::Members, 0, 3)?;
+    damaged(rt, "keys_fresh = 1", Array::Members, 1, 1)?;
+    damaged(rt, "keys_fresh = 257", Array::Members, 1, 257)?;
+    damaged(rt, "keys_free = 1", Array::Members, 2, 1)?;
+    damaged(rt, "keys_free = 3", Array::Members, 2, 3)
 }
 
 // Puts each limit below what is held, at it, at the highest that a map may have, and above that: no, yes, yes, no.
-fn limits() {
-    damaged(b"keys_limit = 1", Array::Members, 3, 1);
-    damaged(b"keys_limit = 2", Array::Members, 3, 2);
-    damaged(b"keys_limit = 256", Array::Members, 3, 256);
-    damaged(b"keys_limit = 257", Array::Members, 3, 257);
-    damaged(b"values_limit = 2", Array::Rounds, 3, 2);
-    damaged(b"values_limit = 3", Array::Rounds, 3, 3);
-    damaged(b"values_limit = 1024", Array::Rounds, 3, 1024);
-    damaged(b"values_limit = 1025", Array::Rounds, 3, 1025);
+fn limits(rt: &impl Print) -> io::Result<()> {
+    damaged(rt, "keys_limit = 1", Array::Members, 3, 1)?;
+    damaged(rt, "keys_limit = 2", Array::Members, 3, 2)?;
+    damaged(rt, "keys_limit = 256", Array::Members, 3, 256)?;
+    damaged(rt, "keys_limit = 257", Array::Members, 3, 257)?;
+    damaged(rt, "values_limit = 2", Array::Rounds, 3, 2)?;
+    damaged(rt, "values_limit = 3", Array::Rounds, 3, 3)?;
+    damaged(rt, "values_limit = 1024", Array::Rounds, 3, 1024)?;
+    damaged(rt, "values_limit = 1025", Array::Rounds, 3, 1025)
 }
 
 // Damages the member place of the round 20: another one, the freed one, none.
-fn owners() {
-    damaged(b"key_index[1] = 0", Array::KeyIndex, 1, 0);
-    damaged(b"key_index[1] = 2", Array::KeyIndex, 1, 2);
-    damaged(b"key_index[1] = 256", Array::KeyIndex, 1, 256);
+fn owners(rt: &impl Print) -> io::Result<()> {
+    damaged(rt, "key_index[1] = 0", Array::KeyIndex, 1, 0)?;
+    damaged(rt, "key_index[1] = 2", Array::KeyIndex, 1, 2)?;
+    damaged(rt, "key_index[1] = 256", Array::KeyIndex, 1, 256)
 }
 
 // Damages the records: heads and tails, the links between, and the lengths.
-fn records() {
-    damaged(b"next_index[1024] = 2", Array::NextIndex, 1024, 2);
-    damaged(b"previous_index[1024] = 0", Array::PreviousIndex, 1024, 0);
-    damaged(b"next_index[1025] = 1025", Array::NextIndex, 1025, 1025);
-    damaged(b"previous_index[1025] = 0", Array::PreviousIndex, 1025, 0);
-    damaged(b"next_index[0] = 1024", Array::NextIndex, 0, 1024);
-    damaged(b"next_index[2] = 0", Array::NextIndex, 2, 0);
-    damaged(b"previous_index[0] = 2", Array::PreviousIndex, 0, 2);
-    damaged(b"previous_index[2] = 1024", Array::PreviousIndex, 2, 1024);
-    damaged(b"length[0] = 1", Array::Lengths, 0, 1);
-    damaged(b"length[1] = 0", Array::Lengths, 1, 0);
+fn records(rt: &impl Print) -> io::Result<()> {
+    damaged(rt, "next_index[1024] = 2", Array::NextIndex, 1024, 2)?;
+    damaged(
+        rt,
+        "previous_index[1024] = 0",
+        Array::PreviousIndex,
+        1024,
+        0,
+    )?;
+    damaged(rt, "next_index[1025] = 1025", Array::NextIndex, 1025, 1025)?;
+    damaged(
+        rt,
+        "previous_index[1025] = 0",
+        Array::PreviousIndex,
+        1025,
+        0,
+    )?;
+    damaged(rt, "next_index[0] = 1024", Array::NextIndex, 0, 1024)?;
+    damaged(rt, "next_index[2] = 0", Array::NextIndex, 2, 0)?;
+    damaged(rt, "previous_index[0] = 2", Array::PreviousIndex, 0, 2)?;
+    damaged(
+        rt,
+        "previous_index[2] = 1024",
+        Array::PreviousIndex,
+        2,
+        1024,
+    )?;
+    damaged(rt, "length[0] = 1", Array::Lengths, 0, 1)?;
+    damaged(rt, "length[1] = 0", Array::Lengths, 1, 0)
 }
 
 // Damages the index, and the member numbers.
-fn index_places() {
+fn index_places(rt: &impl Print) -> io::Result<()> {
     damaged(
-        b"index[start(7)] = EMPTY",
+        rt,
+        "index[start(7)] = EMPTY",
         Array::Index,
         index::start(7),
         65535,
-    );
-    damaged(b"index[start(7)] = 1", Array::Index, index::start(7), 1);
-    damaged(b"index[start(7)] = 300", Array::Index, index::start(7), 300);
-    damaged(b"index[start(8)] = 0", Array::Index, index::start(8), 0);
-    damaged(b"index[start(8)] = 2", Array::Index, index::start(8), 2);
-    damaged(b"keys[0] = 9", Array::Keys, 0, 9);
-    damaged(b"keys[0] = 8", Array::Keys, 0, 8);
+    )?;
+    damaged(rt, "index[start(7)] = 1", Array::Index, index::start(7), 1)?;
+    damaged(
+        rt,
+        "index[start(7)] = 300",
+        Array::Index,
+        index::start(7),
+        300,
+    )?;
+    damaged(rt, "index[start(8)] = 0", Array::Index, index::start(8), 0)?;
+    damaged(rt, "index[start(8)] = 2", Array::Index, index::start(8), 2)?;
+    damaged(rt, "keys[0] = 9", Array::Keys, 0, 9)?;
+    damaged(rt, "keys[0] = 8", Array::Keys, 0, 8)
 }
 
 // Changes what a well-linked map may have as well: another round, any counter of T, anything in a place that is not in use.
-fn no_damage() {
-    damaged(b"values[0] = 99", Array::Values, 0, 99);
-    damaged(b"taken[0] = 0", Array::Taken, 0, 0);
-    damaged(b"taken[0] = 4294967295", Array::Taken, 0, 4294967295);
-    damaged(b"taken[15] = 7", Array::Taken, 15, 7);
-    damaged(b"next_value[3] = 700", Array::NextValue, 3, 700);
-    damaged(b"key_index[3] = 700", Array::KeyIndex, 3, 700);
-    damaged(b"keys[2] = 7", Array::Keys, 2, 7);
-    damaged(b"length[2] = 9", Array::Lengths, 2, 9);
-    damaged(b"values_fresh = 3", Array::Rounds, 1, 3);
+fn no_damage(rt: &impl Print) -> io::Result<()> {
+    damaged(rt, "values[0] = 99", Array::Values, 0, 99)?;
+    damaged(rt, "taken[0] = 0", Array::Taken, 0, 0)?;
+    damaged(rt, "taken[0] = 4294967295", Array::Taken, 0, 4294967295)?;
+    damaged(rt, "taken[15] = 7", Array::Taken, 15, 7)?;
+    damaged(rt, "next_value[3] = 700", Array::NextValue, 3, 700)?;
+    damaged(rt, "key_index[3] = 700", Array::KeyIndex, 3, 700)?;
+    damaged(rt, "keys[2] = 7", Array::Keys, 2, 7)?;
+    damaged(rt, "length[2] = 9", Array::Lengths, 2, 9)?;
+    damaged(rt, "values_fresh = 3", Array::Rounds, 1, 3)
 }

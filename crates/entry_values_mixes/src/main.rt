@@ -3,34 +3,35 @@
 
 #![tactic(auto)]
 
-use libc::STDOUT_FILENO;
+use std::io;
 
-fn main() {
+fn main(rt: HostRuntime) -> io::Result<()> {
     for n in 0..896 {
         let bits = (n % 128) as u8;
-        run_mix(n / 128, bits);
+        run_mix(&rt, n / 128, bits)?;
     }
+    Ok(())
 }
 
-fn print_call(mark: u8) {
+fn print_call(rt: &impl Print, mark: u8) -> io::Result<()> {
     if mark == 0 {
-        io::write_all(STDOUT_FILENO, b" f:");
+        print!(rt; " f:")
     } else {
-        io::write_all(STDOUT_FILENO, b" b:");
+        print!(rt; " b:")
     }
 }
 
-fn print_answer(given: bool, round: u64) {
+fn print_answer(rt: &impl Print, given: bool, round: u64) -> io::Result<()> {
     if given {
-        io::print_decimal(STDOUT_FILENO, round);
+        print!(rt; "{round}")
     } else {
-        io::write_all(STDOUT_FILENO, b"none");
+        print!(rt; "none")
     }
 }
 
 // Runs one mix and prints its line. A bit for each call, the lowest for the first: 0 is `next`, 1 is `next_back`. The calls after the
 // first `given` answered none.
-fn run_mix(count: usize, bits: u8) {
+fn run_mix(rt: &impl Print, count: usize, bits: u8) -> io::Result<()> {
     let slice: [u64; 5] = [7, 0, 18446744073709551615, 12, 9];
     let order: [u8; 7] = [
         bits % 2,
@@ -43,10 +44,10 @@ fn run_mix(count: usize, bits: u8) {
     ];
     let mut out = [0u64; 7];
     let given = entry_values::mix(&slice, count, &order, &mut out);
-    io::print_decimal(STDOUT_FILENO, count as u64);
+    print!(rt; "{count}")?;
     for i in 0..7 {
-        print_call(order[i]);
-        print_answer(i < given, out[i]);
+        print_call(rt, order[i])?;
+        print_answer(rt, i < given, out[i])?;
     }
-    io::write_all(STDOUT_FILENO, b"\n");
+    println!(rt)
 }

@@ -4,83 +4,85 @@
 
 #![tactic(auto)]
 
+ghost use Rattle.std.specs.Prelude.{◌≤◌, length, IfOk};
+
 use answers::Answer;
-use libc::{STDIN_FILENO, STDOUT_FILENO};
 use multimap::{Counts, KeyIndex, KeyLinks, Keys, Taken, ValueLinks, Values};
+use std::io;
+use std::io::Read;
 
 // The longest image, and one byte more.
 const LONGEST: usize = 16393;
 
-fn main() {
+fn main(rt: HostRuntime) -> io::Result<()> {
+    let mut input = rt.stdin();
     let mut left: u64 = 100000;
     while 0 < left {
-        if !turn() {
-            return;
+        if !turn(&rt, &mut input)? {
+            return Ok(());
         }
         left -= 1;
     }
+    Ok(())
 }
 
-fn print_pair(member: u64, round: u64) {
-    io::write_all(STDOUT_FILENO, b" ");
-    io::print_decimal(STDOUT_FILENO, member);
-    io::write_all(STDOUT_FILENO, b":");
-    io::print_decimal(STDOUT_FILENO, round);
+fn print_pair(rt: &impl Print, member: u64, round: u64) -> io::Result<()> {
+    print!(rt; " {member}:{round}")
 }
 
 #[rattlefmt::skip]
 fn print_pairs<'a>(
+    rt: &impl Print,
     keys: &'a Keys, values: &'a Values, key_index: &'a KeyIndex, next_value: &'a ValueLinks, rounds: &'a Counts,
-) {
+) -> io::Result<()> {
     let mut first = [0u64; 1024];
     let mut second = [0u64; 1024];
     let mut told = [0u64; 4];
     reading::om_iter(keys, values, key_index, next_value, rounds, &mut first, &mut second, &mut told);
     let n = told[1];
-    io::write_all(STDOUT_FILENO, b"list");
+    print!(rt; "list")?;
     for i in 0..1024 {
         if (i as u64) < n {
-            print_pair(first[i], second[i]);
+            print_pair(rt, first[i], second[i])?;
         }
     }
+    Ok(())
 }
 
 #[rattlefmt::skip]
-fn print_members<'a>(keys: &'a Keys, next_key: &'a KeyLinks, members: &'a Counts) {
+fn print_members<'a>(rt: &impl Print, keys: &'a Keys, next_key: &'a KeyLinks, members: &'a Counts) -> io::Result<()> {
     let mut first = [0u64; 256];
     let mut told = [0u64; 4];
     reading::om_keys(keys, next_key, members, &mut first, &mut told);
-    io::write_all(STDOUT_FILENO, b" keys");
-    print_front(&first, told[1]);
+    print!(rt; " keys")?;
+    print_front(rt, &first, told[1])
 }
 
 // Prints the counter of each poster.
-fn print_taken(taken: &Taken) {
+fn print_taken(rt: &impl Print, taken: &Taken) -> io::Result<()> {
     let mut counters = [0u64; 16];
     let mut told = [0u64; 4];
     reading::write_counters(taken, &mut counters, &mut told);
-    io::write_all(STDOUT_FILENO, b" taken");
-    print_front(&counters, told[1]);
+    print!(rt; " taken")?;
+    print_front(rt, &counters, told[1])
 }
 
 // Prints the first n of the numbers, a space before each.
-fn print_front(numbers: &[u64], n: u64) {
+fn print_front(rt: &impl Print, numbers: &[u64], n: u64) -> io::Result<()> {
     let mut i = 0;
     while i < numbers.len() && (i as u64) < n {
-        io::write_all(STDOUT_FILENO, b" ");
-        io::print_decimal(STDOUT_FILENO, numbers[i]);
+        let number = numbers[i];
+        print!(rt; " {number}")?;
         i += 1;
     }
+    Ok(())
 }
 
 // Prints the limits of the map.
-fn print_limits<'a>(members: &'a Counts, rounds: &'a Counts) {
+fn print_limits<'a>(rt: &impl Print, members: &'a Counts, rounds: &'a Counts) -> io::Result<()> {
     let most_members = links::get(members, 3);
     let most_rounds = links::get(rounds, 3);
-    io::write_all(STDOUT_FILENO, b" limits ");
-    io::print_decimal(STDOUT_FILENO, most_members as u64);
-    io::write_all(STDOUT_FILENO, b" ");
-    io::print_decimal(STDOUT_FILENO, most_rounds as u64);
+    print!(rt; " limits {most_members} {most_rounds}")
 }
 
 // Says which byte is to stand at i: the image's, or past it 255.
@@ -88,42 +90,36 @@ fn wanted(s: &[u8], i: usize) -> u8 {
     if i < s.len() { s[i] } else { 255 }
 }
 
-fn print_written(answer: Answer) {
+fn print_written(rt: &impl Print, answer: Answer) -> io::Result<()> {
     match answer {
-        Answer::Count(n) => {
-            io::write_all(STDOUT_FILENO, b" image ");
-            io::print_decimal(STDOUT_FILENO, n);
-        }
-        _ => {
-            io::write_all(STDOUT_FILENO, b" refused 3");
-        }
+        Answer::Count(n) => print!(rt; " image {n}"),
+        _ => print!(rt; " refused 3"),
     }
 }
 
 // Writes the map's image again, and prints how it went.
 #[rattlefmt::skip]
 fn print_image<'a>(
+    rt: &impl Print,
     keys: &'a Keys, values: &'a Values, key_index: &'a KeyIndex, next_value: &'a ValueLinks, members: &'a Counts, rounds: &'a Counts, s: &[u8],
-) {
+) -> io::Result<()> {
     let mut out = [255u8; 16393];
     let mut told = [0u64; 4];
     image::om_write_image(keys, values, key_index, next_value, members, rounds, &mut out, &mut told);
     let answer = answers::read(told);
-    print_written(answer);
+    print_written(rt, answer)?;
     let mut wrong: u64 = 0;
     for i in 0..LONGEST {
         if out[i] != wanted(s, i) {
             wrong += 1;
         }
     }
-    io::write_all(STDOUT_FILENO, b" wrong ");
-    io::print_decimal(STDOUT_FILENO, wrong);
-    io::write_all(STDOUT_FILENO, b"\n");
+    println!(rt; " wrong {wrong}")
 }
 
 // Reads the image into these limits, and prints its line.
 #[rattlefmt::skip]
-fn show(s: &[u8], members_limit: u64, rounds_limit: u64) {
+fn show(rt: &impl Print, s: &[u8], members_limit: u64, rounds_limit: u64) -> io::Result<()> {
     let mut keys = [0u64; 256];
     let mut lengths = [0u16; 256];
     let mut next_key = [0u16; 257];
@@ -145,50 +141,78 @@ fn show(s: &[u8], members_limit: u64, rounds_limit: u64) {
         members_limit, rounds_limit, s, &mut told,
     );
     if told[0] == 0 {
-        io::write_all(STDOUT_FILENO, b"refused ");
-        io::print_decimal(STDOUT_FILENO, told[1]);
-        print_limits(&members, &rounds);
-        io::write_all(STDOUT_FILENO, b"\n");
-        return;
+        let number = told[1];
+        print!(rt; "refused {number}")?;
+        print_limits(rt, &members, &rounds)?;
+        return println!(rt);
     }
-    print_pairs(&keys, &values, &key_index, &next_value, &rounds);
-    print_members(&keys, &next_key, &members);
-    print_taken(&taken);
-    print_limits(&members, &rounds);
-    print_image(&keys, &values, &key_index, &next_value, &members, &rounds, s);
+    print_pairs(rt, &keys, &values, &key_index, &next_value, &rounds)?;
+    print_members(rt, &keys, &next_key, &members)?;
+    print_taken(rt, &taken)?;
+    print_limits(rt, &members, &rounds)?;
+    print_image(rt, &keys, &values, &key_index, &next_value, &members, &rounds, s)
 }
 
 fn two_bytes(low: u8, high: u8) -> usize {
     low as usize + 256 * high as usize
 }
 
-// Reads so many bytes of the input to the front of a slice; says whether there were as many, and room for them.
-fn read_front(bytes: &mut [u8], length: usize) -> bool {
-    if bytes.len() < length {
-        return false;
+// Reads from the input until the slice is full or the input ends, and says how many bytes it read.
+fn read_full(input: &mut impl Read, bytes: &mut [u8]) -> io::Result<usize>
+    ensures { IfOk result (λ n. n ≤ length bytes.new) }
+{
+    let mut done = 0;
+    while done < bytes.len() {
+        let n = input.read(&mut bytes[done..])?;
+        if n == 0 {
+            break;
+        }
+        done += n;
     }
-    io::read_full(STDIN_FILENO, &mut bytes[..length]) == length
+    Ok(done)
 }
 
-fn show_front(bytes: &[u8], length: usize, members_limit: u64, rounds_limit: u64) {
-    if length <= bytes.len() {
-        show(&bytes[..length], members_limit, rounds_limit);
+// Reads so many bytes of the input to the front of a slice; says whether there were as many, and room for them.
+fn read_front(input: &mut impl Read, bytes: &mut [u8], length: usize) -> io::Result<bool> {
+    if bytes.len() < length {
+        return Ok(false);
     }
+    let n = read_full(input, &mut bytes[..length])?;
+    Ok(n == length)
+}
+
+fn show_front(
+    rt: &impl Print,
+    bytes: &[u8],
+    length: usize,
+    members_limit: u64,
+    rounds_limit: u64,
+) -> io::Result<()> {
+    if length <= bytes.len() {
+        return show(rt, &bytes[..length], members_limit, rounds_limit);
+    }
+    Ok(())
 }
 
 // Reads one image and prints its line; says whether there was one.
-fn turn() -> bool {
+fn turn(rt: &impl Print, input: &mut impl Read) -> io::Result<bool> {
     let mut head = [0u8; 6];
-    if !read_front(&mut head, 6) {
-        return false;
+    if !read_front(input, &mut head, 6)? {
+        return Ok(false);
     }
     let length = two_bytes(head[0], head[1]);
     let members_limit = two_bytes(head[2], head[3]);
     let rounds_limit = two_bytes(head[4], head[5]);
     let mut bytes = [0u8; 16393];
-    if !read_front(&mut bytes, length) {
-        return false;
+    if !read_front(input, &mut bytes, length)? {
+        return Ok(false);
     }
-    show_front(&bytes, length, members_limit as u64, rounds_limit as u64);
-    true
+    show_front(
+        rt,
+        &bytes,
+        length,
+        members_limit as u64,
+        rounds_limit as u64,
+    )?;
+    Ok(true)
 }

@@ -4,39 +4,40 @@
 #![tactic(auto)]
 
 use index::{Found, KeyPlace};
+use std::io;
 
-fn main() {
-    print_hash(0);
-    print_hash(1);
-    print_hash(7);
-    print_hash(255);
-    print_hash(256);
-    print_hash(65536);
-    print_hash(4294967295);
-    print_hash(4294967296);
-    print_hash(9223372036854775808);
-    print_hash(0x0123_4567_89ab_cdef);
-    print_hash(18446744073709551615);
-    let eight = join_first(none(), 8);
-    let lost = leave(eight, 412, false);
-    print_first(lost, 8);
-    print_agrees(lost);
-    let seven = leave(eight, 412, true);
-    print_first(seven, 8);
-    let again = join(seven, 412, 0);
-    print_first(again, 8);
-    let fewer = leave(again, 350, true);
-    print_first(fewer, 8);
-    let same = leave(fewer, 350, true);
-    print_first(same, 8);
-    let all = join_first(same, 256);
-    let some = leave_third(all);
-    print_first(some, 256);
-    print_agrees(some);
+fn main(rt: HostRuntime) -> io::Result<()> {
+    print_hash(&rt, 0)?;
+    print_hash(&rt, 1)?;
+    print_hash(&rt, 7)?;
+    print_hash(&rt, 255)?;
+    print_hash(&rt, 256)?;
+    print_hash(&rt, 65536)?;
+    print_hash(&rt, 4294967295)?;
+    print_hash(&rt, 4294967296)?;
+    print_hash(&rt, 9223372036854775808)?;
+    print_hash(&rt, 0x0123_4567_89ab_cdef)?;
+    print_hash(&rt, 18446744073709551615)?;
+    let eight = join_first(&rt, none(), 8)?;
+    let lost = leave(&rt, eight, 412, false)?;
+    print_first(&rt, lost, 8)?;
+    print_agrees(&rt, lost)?;
+    let seven = leave(&rt, eight, 412, true)?;
+    print_first(&rt, seven, 8)?;
+    let again = join(&rt, seven, 412, 0)?;
+    print_first(&rt, again, 8)?;
+    let fewer = leave(&rt, again, 350, true)?;
+    print_first(&rt, fewer, 8)?;
+    let same = leave(&rt, fewer, 350, true)?;
+    print_first(&rt, same, 8)?;
+    let all = join_first(&rt, same, 256)?;
+    let some = leave_third(&rt, all)?;
+    print_first(&rt, some, 256)?;
+    print_agrees(&rt, some)
 }
 
 // The members' numbers, which member places are in use, and the index over them.
-#[derive(Drop)]
+#[derive(Clone, Copy)]
 struct Members {
     index: [u16; 512],
     keys: [u64; 256],
@@ -53,45 +54,30 @@ fn none() -> Members {
 }
 
 // Prints a number and its hash.
-fn print_hash(member: u64) {
-    io::write_all(1, b"hash ");
-    io::print_decimal(1, member);
-    io::write_all(1, b" ");
-    io::print_decimal(1, fnv::hash(member));
-    io::write_all(1, b"\n");
+fn print_hash(rt: &impl Print, member: u64) -> io::Result<()> {
+    let hash = fnv::hash(member);
+    println!(rt; "hash {member} {hash}")
 }
 
 // Prints what the search for a member says: the place where it ended, and how many places it looked at.
-fn print_find(m: Members, member: u64) {
+fn print_find(rt: &impl Print, m: Members, member: u64) -> io::Result<()> {
     let index = m.index;
     let keys = m.keys;
     let found = index::find(&index, &keys, member);
-    io::print_decimal(1, member);
     match found {
-        Found::At(place, _, looked) => {
-            io::write_all(1, b" at ");
-            io::print_decimal(1, place as u64);
-            io::write_all(1, b" looked ");
-            io::print_decimal(1, looked as u64);
-        }
-        Found::Absent(place, looked) => {
-            io::write_all(1, b" absent ");
-            io::print_decimal(1, place as u64);
-            io::write_all(1, b" looked ");
-            io::print_decimal(1, looked as u64);
-        }
+        Found::At(place, _, looked) => println!(rt; "{member} at {place} looked {looked}"),
+        Found::Absent(place, looked) => println!(rt; "{member} absent {place} looked {looked}"),
     }
-    io::write_all(1, b"\n");
 }
 
 // Lets the member join in the member place `key`, unless it is there already.
-fn join(m: Members, member: u64, key: u16) -> Members {
+fn join(rt: &impl Print, m: Members, member: u64, key: u16) -> io::Result<Members> {
     let mut out = m;
     let index = out.index;
     let keys = out.keys;
     let found = index::find(&index, &keys, member);
     let Found::Absent(at, _) = found else {
-        return out;
+        return Ok(out);
     };
     let k = key as usize;
     if k < 256 {
@@ -99,13 +85,13 @@ fn join(m: Members, member: u64, key: u16) -> Members {
         out.used[k] = true;
         index::insert(&mut out.index, at, KeyPlace(key));
     }
-    io::write_all(1, b"join ");
-    print_find(out, member);
-    out
+    print!(rt; "join ")?;
+    print_find(rt, out, member)?;
+    Ok(out)
 }
 
 // Makes the member leave, if it is there. Where the gap is not closed, its place in the index is only emptied.
-fn leave(m: Members, member: u64, closed: bool) -> Members {
+fn leave(rt: &impl Print, m: Members, member: u64, closed: bool) -> io::Result<Members> {
     let mut out = m;
     let index = out.index;
     let keys = out.keys;
@@ -121,20 +107,20 @@ fn leave(m: Members, member: u64, closed: bool) -> Members {
             index::insert(&mut out.index, at, KeyPlace(index::EMPTY));
         }
     }
-    io::write_all(1, b"leave ");
-    print_find(out, member);
-    out
+    print!(rt; "leave ")?;
+    print_find(rt, out, member)?;
+    Ok(out)
 }
 
 // Prints whether the index holds exactly the members.
-fn print_agrees(m: Members) {
+fn print_agrees(rt: &impl Print, m: Members) -> io::Result<()> {
     let index = m.index;
     let keys = m.keys;
     let used = m.used;
     if index::agrees(&index, &keys, &used) {
-        io::write_all(1, b"agrees\n");
+        println!(rt; "agrees")
     } else {
-        io::write_all(1, b"differs\n");
+        println!(rt; "differs")
     }
 }
 
@@ -154,31 +140,32 @@ fn number(i: u16) -> u64 {
 }
 
 // Lets the first n numbers join.
-fn join_first(m: Members, n: u16) -> Members {
+fn join_first(rt: &impl Print, m: Members, n: u16) -> io::Result<Members> {
     let mut out = m;
     let mut i: u16 = 0;
     while i < n {
-        out = join(out, number(i), i);
+        out = join(rt, out, number(i), i)?;
         i += 1;
     }
-    out
+    Ok(out)
 }
 
 // Makes every third of 256 numbers leave.
-fn leave_third(m: Members) -> Members {
+fn leave_third(rt: &impl Print, m: Members) -> io::Result<Members> {
     let mut out = m;
     let mut i: u16 = 0;
     while i < 256 {
-        out = leave(out, number(i), true);
+        out = leave(rt, out, number(i), true)?;
         i += 3;
     }
-    out
+    Ok(out)
 }
 
-fn print_first(m: Members, n: u16) {
+fn print_first(rt: &impl Print, m: Members, n: u16) -> io::Result<()> {
     let mut i: u16 = 0;
     while i < n {
-        print_find(m, number(i));
+        print_find(rt, m, number(i))?;
         i += 1;
     }
+    Ok(())
 }

@@ -4,16 +4,17 @@
 
 #![tactic(auto)]
 
-use libc::{STDIN_FILENO, STDOUT_FILENO};
+use std::io;
+use std::io::Read;
 
-fn main() {
-    let mut input = [0u8; 688128];
-    let n = io::read_full(STDIN_FILENO, &mut input);
-    print(&input[..n]);
+fn main(rt: HostRuntime) -> io::Result<()> {
+    let mut input = Vec::new(rt.alloc());
+    rt.stdin().take(688128).read_to_end(&mut input)?;
+    print(&rt, &input)
 }
 
-fn print(lists: &[u8]) {
+fn print(rt: &impl Print, lists: &[u8]) -> io::Result<()> {
     let mut text = [0u8; 262144];
     let used = tapes::answer_lists(lists, &mut text);
-    io::write_all(STDOUT_FILENO, &text[..used]);
+    rt.write_all(&text[..used])
 }
