@@ -46,8 +46,8 @@ drop_two (a ∷ (b ∷ l)) = let e : min 2 (suc (suc (length l))) ≡ 2 = omega 
 marks_part : (l : List ℕ) (n : ℕ) → n ≡ min 2 (length l) → take (length l - n) (drop n l) ≡ drop 2 l
 marks_part l n e = take_all (length l - n) (drop n l) (omega (arith, length-drop n l)) ∙ ap (λ (k : ℕ). drop k l) e ∙ drop_two l
 
-pub marks_line : (l : List ℕ) (n : ℕ) → n ≡ min 2 (length l) → keeps (map mark_of (drop 2 l)) ≡ line_of l → marks_line (take (length l - n) (drop n l)) ≡ line_of l
-marks_line l n e h = ap marks_line (marks_part l n e) ∙ sym (marks_short (drop 2 l) (omega (arith, keeps_short l (map mark_of (drop 2 l)) h, length-drop 2 l))) ∙ h
+pub marks_rest : (l : List ℕ) (n : ℕ) → n ≡ min 2 (length l) → keeps (map mark_of (drop 2 l)) ≡ line_of l → marks_line (take (length l - n) (drop n l)) ≡ line_of l
+marks_rest l n e h = ap marks_line (marks_part l n e) ∙ sym (marks_short (drop 2 l) (omega (arith, keeps_short l (map mark_of (drop 2 l)) h, length-drop 2 l))) ∙ h
 
 -- a line is answered, with its line end after the text
 module _ (line : List ℕ) (m : Arrays) {was out : List ℕ} {m' : Arrays} {n : ℕ} (h : Roomy was) (p : Replied (line_of line) m was out m' n) where
