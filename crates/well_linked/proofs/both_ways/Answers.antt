@@ -1,5 +1,4 @@
 -- `well_linked::both_ways` meets its contract: the route holds exactly if what is left of it does. Assumes nothing.
-use Prim.Native.Nat.{◌-◌}
 use native.Mathlib.Omega.{arith}
 use lib.ListN.{length}
 use Rattle.links.specs.Stores.{at}

@@ -1,5 +1,4 @@
 -- `well_linked::ends_meet` meets its contract: the chains before `key` are closed. Assumes nothing.
-use Prim.Native.Nat.{ℕ, ◌-◌, ◌<◌}
 use native.Mathlib.Omega.{arith}
 use Rattle.well_linked.proofs.ends_meet.Goals as goal
 

@@ -7,7 +7,7 @@ use mathlib.Core.List.{List, ◌∷◌}
 use lib.ListN.{length, get_or-eq_default}
 use native.Mathlib.Nat.{sub-zero}
 use native.Mathlib.Omega.{arith}
-use Rattle.links.specs.Route.{tally, walk}
+use Rattle.links.specs.Route.{walk}
 use Rattle.links.specs.Stores.{at}
 use Rattle.index.proofs.Agree.{true_false}
 use Rattle.well_linked.specs.Chains.{trail, Used, Inside, Chains}

@@ -1,5 +1,4 @@
 -- `well_linked::mark` meets its contract: what is marked and what is still to come are together the walk. Assumes nothing.
-use Prim.Native.Nat.{◌-◌}
 use native.Mathlib.Nat.{sub-zero}
 use native.Mathlib.Omega.{arith}
 use Rattle.links.specs.Route.{walk}
