@@ -7,8 +7,18 @@ use Rattle.multimap.specs.Arrays.{Arrays, Sized, arrays}
 use Rattle.multimap.specs.Map.{rounds_of, members_of}
 use Rattle.multimap.specs.WellLinked.{Counted, Limited}
 use Rattle.well_linked.proofs.Linking.{marked_so}
-use Rattle.well_linked.proofs.Whole.{Within, limited_so, Records, inside, listed, recorded, well_linked_so}
+use Rattle.well_linked.proofs.Whole.{Within, limited_so, rounds_within, members_within, Records, inside, listed, recorded, well_linked_so}
 use Rattle.well_linked.proofs.well_linked.Goals as goal
+
+pub returns-then-not-is_limited : goal.returns-then-not-is_limited
+returns-then-not-is_limited c =
+    let rounds = c.is_limited in
+    λ w. if_false rounds.result c.if-not-is_limited.true rounds.ensures (rounds_within _ w.limited)
+
+pub returns-then-not-is_limited-2 : goal.returns-then-not-is_limited-2
+returns-then-not-is_limited-2 c =
+    let members = c.is_limited-2 in
+    λ w. if_false members.result c.if-not-is_limited-2.true members.ensures (members_within _ w.limited)
 
 pub chains_linked-requires : goal.chains_linked-requires
 chains_linked-requires c =
