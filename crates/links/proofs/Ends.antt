@@ -1,6 +1,6 @@
 -- A list of places from both ends: walks, the first and the last place leave, places leave one after the other, and a freed place is taken
 -- again. Walks of a record's chain likewise. Assumes nothing.
-use Prim.Native.Nat.{ℕ, ◌+◌, ◌-◌, ◌≤◌, ◌<◌}
+use Prim.Native.Nat.{ℕ, ◌-◌, ◌≤◌, ◌<◌}
 use mathlib.Core.Path.{◌≡◌, refl, ap, ◌∙◌}
 use mathlib.Core.List.{List, [], ◌∷◌, ◌++◌, append-nil, reverse, reverse-cons}
 use native.Mathlib.Omega.{arith}

@@ -9,7 +9,7 @@ use borrow.Author.Tests.{ne_eqb, eqb-true}
 use lib.Dec.{eqb}
 use lib.ListN.{length, length-map}
 use Rattle.steps.specs.Lists.{filter}
-use Rattle.steps.specs.State.{Limits, of, rounds, others}
+use Rattle.steps.specs.State.{Limits, of, others}
 use Rattle.steps.proofs.Filter.{length_split}
 use Rattle.links.specs.Route.{keep, strip}
 use Rattle.links.specs.Places.{Places, order}
@@ -17,7 +17,7 @@ use Rattle.links.specs.Links.{record_in, record_of}
 use Rattle.links.proofs.Routes.{keep_same, keep_inside}
 use Rattle.links.proofs.Strips.{keep_neither, strip_those}
 use Rattle.links.proofs.Chains.{in_record}
-use Rattle.multimap.specs.Map.{at, pair_at, pairs, members, rounds_of, links_of}
+use Rattle.multimap.specs.Map.{at, pair_at, pairs, rounds_of, links_of}
 use Rattle.multimap.specs.Arrays.{Arrays}
 use Rattle.multimap.specs.WellLinked.{WellLinked}
 use Rattle.multimap.proofs.Stores.{length_pairs}

@@ -10,7 +10,7 @@ use borrow.Author.Tests.{lt-ltb, le-ltb}
 use lib.Dec.{eqb, ltb}
 use lib.ListN.{length, length-append, length-map, get_or}
 use Rattle.steps.specs.Lists.{filter, any}
-use Rattle.steps.specs.State.{Pair, of, has, max_taken}
+use Rattle.steps.specs.State.{Pair, of, has}
 use Rattle.steps.specs.Accounting.{times}
 use Rattle.steps.proofs.Filter.{any_one}
 use Rattle.links.specs.Route.{bit, tally, keep, walk, Route}

@@ -24,7 +24,7 @@ use Rattle.links.proofs.Routes.{same_or_not, keep_all, keep_inside, tally_same, 
 use Rattle.links.proofs.Lists.{order_without, length_order}
 use Rattle.links.proofs.Bare.{bare_order}
 use Rattle.index.specs.Removal.{Removed}
-use Rattle.multimap.specs.Map.{at, pair_at, pairs, members, rounds_of, members_of, links_of, state_of}
+use Rattle.multimap.specs.Map.{at, pair_at, pairs, rounds_of, members_of, links_of, state_of}
 use Rattle.multimap.specs.WellLinked.{WellLinked, linked}
 use Rattle.multimap.specs.Arrays.{Arrays, Sized}
 use Rattle.multimap.proofs.Stores.{map-append}

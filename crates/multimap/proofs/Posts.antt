@@ -15,7 +15,7 @@ use Rattle.multimap.specs.WellLinked.{WellLinked, linked}
 use Rattle.multimap.specs.Arrays.{Arrays}
 use Rattle.multimap.proofs.Stores.{any_none}
 use Rattle.multimap.proofs.Records.{Member}
-use Rattle.multimap.proofs.States.{Unknown, is_full, not_full, is_crowded}
+use Rattle.multimap.proofs.States.{Unknown, is_full, not_full}
 use Rattle.multimap.specs.Adding.{Ready, AddedTo, Joins, Joined, Posted, last_key}
 
 module _ (m : Arrays) (k : ℕ) where

@@ -1,5 +1,5 @@
 -- A member joins, and a round is added at the back: what each asks of the map, and what it leaves.
-use Rattle.std.specs.Prelude.{ℕ, ◌+◌, ◌<◌, min, ◌≡◌, ◌≢◌, [], ◌∷◌, ◌++◌, length}
+use Rattle.std.specs.Prelude.{ℕ, ◌<◌, ◌≡◌, ◌≢◌, [], ◌∷◌, ◌++◌, length}
 use Rattle.steps.specs.State.{add, counting}
 use Rattle.links.specs.Route.{tally}
 use Rattle.links.specs.Places.{order}

@@ -14,7 +14,7 @@ use Rattle.index.specs.declared.KeyPlace.{KeyPlace}
 use Rattle.index.specs.declared.Found.TheVariants.{At, Absent}
 use Rattle.index.proofs.Finds.{says_at}
 use Rattle.multimap.specs.Arrays.{Arrays}
-use Rattle.multimap.specs.Map.{at, members, members_of}
+use Rattle.multimap.specs.Map.{at, members_of}
 use Rattle.multimap.specs.Changes.{with_member}
 use Rattle.multimap.proofs.Stores.{mem_tally}
 use Rattle.multimap.proofs.Builds.{Admits, admits, member_order, member_members, member_sound}

@@ -1,12 +1,10 @@
 -- What the search for a number, and its entry, say of a well-linked map whose arrays were lent. Assumes nothing.
 use Prim.Native.Nat.{ℕ}
 use mathlib.Core.Path.{◌≡◌, refl, sym, ap, ◌∙◌, subst}
-use mathlib.Core.List.{List, [], ◌∷◌, map}
+use mathlib.Core.List.{List, map}
 use native.Mathlib.Omega.{arith}
 use borrow.Author.Tests.{le-ltb}
 use lib.ListN.{length}
-use denote.Enum.Declared.{tag_of}
-use types.Run.{OneOf, miss}
 use Rattle.steps.specs.State as St
 use Rattle.steps.specs.Call as C
 use Rattle.steps.specs.Call.{Outcome, round, count, occupied}
@@ -14,7 +12,6 @@ use Rattle.steps.specs.Step.{first, write, entry_of}
 use Rattle.answers.specs.Answers.{answer_of}
 use Rattle.answers.specs.declared.Answer.{Answer}
 use Rattle.answers.specs.declared.Answer.TheVariants.{Refused, Nothing, Done, Round, Count, Present, Popped, Occupied, Vacant}
-use Rattle.answers.specs.contracts.Answer.{the_type}
 use Rattle.index.specs.declared.KeyPlace.{KeyPlace}
 use Rattle.index.specs.declared.Found.{Found}
 use Rattle.index.specs.declared.Found.TheVariants.{At, Absent}

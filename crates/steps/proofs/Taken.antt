@@ -1,7 +1,7 @@
 -- Each counter of T counts its poster's adds that are not refused, up to its ceiling. Assumes nothing.
-use mathlib.Core.Path.{◌≡◌, refl, sym, ap, ◌∙◌}
+use mathlib.Core.Path.{◌≡◌, refl, sym, ◌∙◌}
 use mathlib.Core.Bool.{false}
-use mathlib.Core.List.{List, [], ◌∷◌, ◌++◌, append-nil, head?, tail, drop_last}
+use mathlib.Core.List.{List, [], ◌∷◌, append-nil, head?, tail, drop_last}
 use mathlib.Core.Option.{Option, none, some}
 use Prim.Native.Nat.{ℕ, ◌+◌, ◌≤◌, min}
 use native.Mathlib.Omega.{arith}

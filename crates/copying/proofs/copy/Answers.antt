@@ -1,6 +1,5 @@
 -- `copying::copy` meets its contract. The loop's invariant: i values are copied, and the walk is at the next place. The measure is how many
 -- are left. Assumes nothing.
-use Prim.Native.Nat.{◌-◌}
 use native.Mathlib.Omega.{arith}
 use Rattle.links.specs.Stores.{at}
 use Rattle.copying.proofs.Copying.{none_copied, still_long, slot, one_copied, all_copied, writing_none, writing_all}

@@ -1,8 +1,4 @@
 use Rattle.entries.proofs.Entries.{refusal_stays, else_done}
-use Rattle.entries.proofs.tell_done.Reads as reads
-use Rattle.entries.proofs.tell_done.Lts as lts
-use Rattle.answers.proofs.read.Reads as read-reads
-use Rattle.answers.proofs.tell.Reads as tell-reads
 use Rattle.entries.proofs.tell_done.Goals as goal
 
 -- src/lib.rt:139:9

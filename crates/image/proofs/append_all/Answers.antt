@@ -1,5 +1,4 @@
 -- `image::append_all` meets its contract, by the laws of proofs/Appends.antt. The measure is how many pairs are left. Assumes nothing.
-use Prim.Native.Nat.{◌-◌}
 use mathlib.Core.Path.{refl}
 use native.Mathlib.Omega.{arith}
 use Rattle.multimap.specs.Arrays.{Arrays, arrays}

@@ -1,5 +1,4 @@
 -- `image::put` meets its contract, by the laws of proofs/Writes.antt. Assumes nothing.
-use Prim.Native.Nat.{◌-◌}
 use Rattle.image.proofs.Writes.{put_none, put_one, put_all}
 use Rattle.image.proofs.put.Goals as goal
 

@@ -1,5 +1,4 @@
 -- `image::read_numbers` meets its contract, by the laws of proofs/Numbers.antt. Assumes nothing.
-use Prim.Native.Nat.{◌-◌}
 use native.Mathlib.Omega.{arith}
 use Rattle.image.proofs.Numbers.{read_none, read_one, read_all}
 use Rattle.image.proofs.read_numbers.Goals as goal

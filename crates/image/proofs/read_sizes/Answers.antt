@@ -11,9 +11,9 @@ pub returns-then-rounds_limit-n : goal.returns-then-rounds_limit-n
 returns-then-rounds_limit-n c =
     says_many _ c.args.s.now c.if-s-lt8.false _ _ c.four-n.ensures.0 c.four-m.ensures.0
     (elim c.then-rounds_limit-n.branch [
-      then-rounds_limit-n-via-then-rounds_limit-n w ↦ rw (lt-ltb _ c.four-n.result w.if-rounds_limit-n.true)
+      | then-rounds_limit-n-via-then-rounds_limit-n w ↦ rw (lt-ltb _ c.four-n.result w.if-rounds_limit-n.true)
       | then-rounds_limit-n-via-else-rounds_limit-n+then-members_limit-m w ↦
-        rw (le-ltb _ c.four-n.result w.if-rounds_limit-n.false) (lt-ltb _ c.four-m.result w.if-members_limit-m.true)
+          rw (le-ltb _ c.four-n.result w.if-rounds_limit-n.false) (lt-ltb _ c.four-m.result w.if-members_limit-m.true)
     ])
 
 pub returns-then-s-rounds : goal.returns-then-s-rounds

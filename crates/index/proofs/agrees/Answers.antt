@@ -1,11 +1,9 @@
 -- `index::agrees` meets its contract. The loops' invariants: each place passed is right, and then each member place passed.
 -- Assumes nothing.
 use mathlib.Core.Path.{◌≡◌}
-use Prim.Native.Nat.{◌-◌}
 use native.Mathlib.Omega.{arith}
 use borrow.Author.Count.{below_more}
 use borrow.Author.Rules.{rules}
-use borrow.Author.Tests.{not-true, not-false}
 use lib.ListN.{length}
 use Rattle.index.specs.Agree.{PlaceOk, KeyOk}
 use Rattle.index.proofs.Agree.{right, place_right, key_right, if_true, if_false}

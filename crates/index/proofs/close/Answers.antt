@@ -2,7 +2,6 @@
 -- Assumes nothing.
 use native.Mathlib.Omega.{arith}
 use borrow.Author.Rules.{rules}
-use Rattle.index.specs.Table.{home}
 use Rattle.index.proofs.Cycle.{dist_lt}
 use Rattle.index.proofs.Search.{at_home}
 use Rattle.index.proofs.Table.{spare}
@@ -33,24 +32,24 @@ loop-looked-preserved c =
     let l = c.loop-looked in
     let full = c.if-key-ge-KEYS.false in
     elim c.if-steps.branch [
-      then-steps w ↦
-        rw (w.index-is, w.gap-is) (
-          omega arith,
-          l.invariant.2,
-          omega arith,
-          λ ks h occ.
-              moved a.keys.now ks _ a.at (spare h).0 c.requires (spare h).1 l.index l.gap l.next l.looked
-              (l.invariant.3 ks h occ) full (rw (c.steps.ensures, c.steps-in-loop-looked.ensures, c.start-home.ensures) at w.if-steps.true),
-        )
+      | then-steps w ↦
+          rw (w.index-is, w.gap-is) (
+            omega arith,
+            l.invariant.2,
+            omega arith,
+            λ ks h occ.
+                moved a.keys.now ks _ a.at (spare h).0 c.requires (spare h).1 l.index l.gap l.next l.looked
+                (l.invariant.3 ks h occ) full (rw (c.steps.ensures, c.steps-in-loop-looked.ensures, c.start-home.ensures) at w.if-steps.true),
+          )
       | else-steps w ↦
-        rw (w.index-is, w.gap-is) (
-          omega arith,
-          l.invariant.1,
-          omega arith,
-          λ ks h occ.
-              skipped a.keys.now ks _ a.at (spare h).0 c.requires (spare h).1 l.index l.gap l.next l.looked
-              (l.invariant.3 ks h occ) full (rw (c.steps.ensures, c.steps-in-loop-looked.ensures, c.start-home.ensures) at w.if-steps.false),
-        )
+          rw (w.index-is, w.gap-is) (
+            omega arith,
+            l.invariant.1,
+            omega arith,
+            λ ks h occ.
+                skipped a.keys.now ks _ a.at (spare h).0 c.requires (spare h).1 l.index l.gap l.next l.looked
+                (l.invariant.3 ks h occ) full (rw (c.steps.ensures, c.steps-in-loop-looked.ensures, c.start-home.ensures) at w.if-steps.false),
+          )
     ]
 
 pub returns : goal.returns

@@ -1,5 +1,4 @@
 -- `inserting::empty` meets its contract. Assumes nothing.
-use Prim.Native.Nat.{◌-◌}
 use native.Mathlib.Omega.{arith}
 use Rattle.multimap.specs.Arrays.{Arrays, arrays}
 use Rattle.inserting.proofs.Emptying.{begins, goes_on, ends}

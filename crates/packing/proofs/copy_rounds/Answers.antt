@@ -1,5 +1,5 @@
 -- `packing::copy_rounds` meets its contract, by the laws of proofs/Copying.antt. Assumes nothing.
-use Prim.Native.Nat.{◌-◌, ◌<◌, ◌≤◌}
+use Prim.Native.Nat.{◌<◌, ◌≤◌}
 use native.Mathlib.Omega.{arith}
 use Rattle.multimap.specs.Map.{at}
 use Rattle.packing.proofs.Copying.{rounds_none, rounds_more, rounds_all, long}

@@ -1,5 +1,4 @@
 -- `packing::fill` meets its contract, by the laws of proofs/Fills.antt. Assumes nothing.
-use Prim.Native.Nat.{◌-◌}
 use native.Mathlib.Omega.{arith}
 use Rattle.multimap.specs.Arrays.{Arrays, arrays}
 use Rattle.packing.proofs.Fills.{filling_none, filling_more, filling_all}

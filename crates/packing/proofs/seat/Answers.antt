@@ -1,5 +1,4 @@
 -- `packing::seat` meets its contract, by the laws of proofs/Seats.antt. Assumes nothing.
-use Prim.Native.Nat.{◌-◌}
 use mathlib.Core.Path.{sym, ◌∙◌}
 use native.Mathlib.Omega.{arith}
 use Rattle.multimap.specs.Arrays.{Arrays, arrays}

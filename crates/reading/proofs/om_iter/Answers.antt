@@ -1,10 +1,9 @@
 -- `reading::om_iter` meets its contract. The loop's invariant: i members and i rounds are copied, and the walk is at the next pair's place.
 -- The measure is how many are left. Assumes nothing.
-use Prim.Native.Nat.{◌-◌, ◌≤◌}
+use Prim.Native.Nat.{◌≤◌}
 use mathlib.Core.Path.{ap, ◌∙◌}
-use mathlib.Core.Logic.{inl, inr, ⊎_elim}
+use mathlib.Core.Logic.{inl, inr}
 use native.Mathlib.Omega.{arith}
-use borrow.Author.Tests.{ltb-true, ltb-false}
 use Rattle.links.specs.Stores.{at}
 use Rattle.copying.proofs.Copying.{none_copied, still_long, slot, one_copied, all_copied}
 use Rattle.reading.proofs.Steps.{told_iter_short, told_iter}
@@ -17,7 +16,7 @@ returns-then-out-end c =
     let held = c.get-n.ensures ∙ ap (λ l. at l 0) same.4 in
     told_iter_short α g c.args.out.now c.args.out2.now c.get-n.result held _
     (elim c.then-out-end.branch [
-      then-out-end-via-then-out-end w ↦ inl w.if-out-end.true
+      | then-out-end-via-then-out-end w ↦ inl w.if-out-end.true
       | then-out-end-via-else-out-end+then-out2-end w ↦ inr w.if-out2-end.true
     ]) c.tell.ensures
 
@@ -41,8 +40,7 @@ loop-i-smaller c = omega (arith, c.loop-i-test.true)
 
 pub loop-i-preserved : goal.loop-i-preserved
 loop-i-preserved c =
-    let inv = c.loop-i.invariant in
-    (
+    let inv = c.loop-i.invariant in (
       one_copied inv.0 c.loop-i-test.true (c.member-member.ensures ∙ ap (at c.args.keys.now) c.owner-key.ensures)
           c.after-x-in-loop-i.ensures,
       one_copied inv.1 c.loop-i-test.true c.round-round.ensures c.after-x-in-loop-i.ensures,

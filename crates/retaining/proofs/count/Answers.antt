@@ -1,5 +1,4 @@
 -- `retaining::count` meets its contract. Assumes nothing.
-use Prim.Native.Nat.{◌-◌}
 use native.Mathlib.Omega.{arith}
 use lib.Dec.{eqb}
 use Rattle.retaining.proofs.Marks.{counted_more, counted_most, counted_all}

@@ -1,5 +1,5 @@
 -- `retaining::thin` meets its contract. Assumes nothing.
-use Prim.Native.Nat.{◌-◌, ◌<◌}
+use Prim.Native.Nat.{◌<◌}
 use native.Mathlib.Omega.{arith}
 use lib.ListN.{length}
 use Rattle.retaining.proofs.Thins.{inside, share, goes_on, ends}

@@ -19,7 +19,7 @@ returns c =
     c.args.previous_index.now c.args.index.now c.args.members.now c.args.rounds.now c.args.taken.now in
     -- the reads are lent arrays of the map that was given
     let whole : Has given c.args.keys.now c.args.lengths.now c.args.next_key.now c.args.values.now c.args.key_index.now c.args.next_value.now
-        c.args.next_index.now c.args.index.now c.args.members.now c.args.rounds.now c.args.taken.now =
+    c.args.next_index.now c.args.index.now c.args.members.now c.args.rounds.now c.args.taken.now =
     record {
       keys_are = refl;
       lengths_are = refl;

@@ -1,9 +1,8 @@
 -- `turn_first::call_below_8` meets its contract. Assumes nothing.
 use mathlib.Core.Path.{refl}
 use native.Mathlib.Omega.{arith}
-use Prim.Native.Nat.{zero-le}
 use Rattle.multimap.specs.Arrays.{Arrays, arrays}
-use Rattle.turn_first.proofs.Turns.{last_is, no_slice, one_slice}
+use Rattle.turn_first.proofs.Turns.{no_slice, one_slice}
 use Rattle.turn_first.proofs.call_below_8.Goals as goal
 
 pub returns-in-0 : goal.returns-in-0
