@@ -5,14 +5,13 @@ use mathlib.Core.Path.{◌≡◌}
 use mathlib.Core.Bool.{Bool, false}
 use mathlib.Core.List.{List, ◌∷◌}
 use lib.ListN.{length, get_or-eq_default}
-use native.Mathlib.Nat.{sub-zero}
 use native.Mathlib.Omega.{arith}
 use Rattle.links.specs.Route.{walk}
 use Rattle.links.specs.Stores.{at}
 use Rattle.index.proofs.Agree.{true_false}
 use Rattle.well_linked.specs.Chains.{trail, Used, Inside, Chains}
-use Rattle.well_linked.proofs.Marking.{walk_more, walk_done}
-use Rattle.well_linked.proofs.Chaining.{Chaining, chaining_none, x_in, joins, room, chaining_one, followed, walked, refused}
+use Rattle.well_linked.proofs.Marking.{walk_more}
+use Rattle.well_linked.proofs.Chaining.{Chaining, x_in, joins, room, chaining_one, refused}
 use Rattle.well_linked.proofs.follow_chains.Goals as goal
 
 -- no member place past the marks is in use
@@ -36,22 +35,6 @@ module _ {key next prev : ℕ → ℕ} {len : ℕ} {used : List Bool} {tail many
       → (next (at tail (key (at on here))) ≡ at on here) × (prev (at on here) ≡ at tail (key (at on here)))
   linked_so l w = joins g more l (w.chain (key (at on here)) l (in_use w))
 
-pub loop-i-init : goal.loop-i-init
-loop-i-init c =
-    let a = c.args in (
-      omega arith,
-      omega arith,
-      rw sub-zero
-          (chaining_none (at a.key_index.now) (at a.next_index.now) (at a.previous_index.now) (trail a.next_value.now a.len)
-          a.used.now a.tail.now a.many.now c.requires.2),
-    )
-
-pub overflow_cast-q : goal.overflow_cast-q
-overflow_cast-q c = omega (arith, below c.args.next_value.now c.loop-i.here c.loop-i.invariant.2 c.loop-i-test.true c.requires.0)
-
-pub offset_bounds-key_index-q : goal.offset_bounds-key_index-q
-offset_bounds-key_index-q c = omega (arith, below c.args.next_value.now c.loop-i.here c.loop-i.invariant.2 c.loop-i-test.true c.requires.0)
-
 pub bounds-key_index-q : goal.bounds-key_index-q
 bounds-key_index-q c = below c.args.next_value.now c.loop-i.here c.loop-i.invariant.2 c.loop-i-test.true c.requires.0
 
@@ -62,28 +45,13 @@ returns-then-key-ge-MEMBERS c =
 pub returns-then-not-in_use : goal.returns-then-not-in_use
 returns-then-not-in_use c = refused (λ w. true_false (in_use c.args.next_value.now c.loop-i.here c.loop-i.invariant.2 c.loop-i-test.true w) c.if-not-in_use.true)
 
-pub offset_bounds-previous_index-q : goal.offset_bounds-previous_index-q
-offset_bounds-previous_index-q c = omega (arith, below c.args.next_value.now c.loop-i.here c.loop-i.invariant.2 c.loop-i-test.true c.requires.0)
-
-pub bounds-previous_index-q : goal.bounds-previous_index-q
-bounds-previous_index-q c = omega (arith, below c.args.next_value.now c.loop-i.here c.loop-i.invariant.2 c.loop-i-test.true c.requires.0)
-
 pub returns-then-back-last : goal.returns-then-back-last
 returns-then-back-last c =
-    refused (λ w. c.if-back-last.true (linked_so c.args.next_value.now c.loop-i.here c.loop-i.invariant.2 c.loop-i-test.true c.if-key-ge-MEMBERS.false w).1)
-
-pub overflow_cast-on : goal.overflow_cast-on
-overflow_cast-on c = omega (arith, c.loop-i.invariant.2.fits _ c.if-key-ge-MEMBERS.false)
-
-pub offset_bounds-next_index-last : goal.offset_bounds-next_index-last
-offset_bounds-next_index-last c = omega (arith, c.loop-i.invariant.2.fits _ c.if-key-ge-MEMBERS.false)
-
-pub bounds-next_index-last : goal.bounds-next_index-last
-bounds-next_index-last c = c.loop-i.invariant.2.fits _ c.if-key-ge-MEMBERS.false
+    refused (λ w. omega (arith, c.if-back-last.true, (linked_so c.args.next_value.now c.loop-i.here c.loop-i.invariant.2 c.loop-i-test.true c.if-key-ge-MEMBERS.false w).1))
 
 pub returns-then-on-here : goal.returns-then-on-here
 returns-then-on-here c =
-    refused (λ w. c.if-on-here.true (linked_so c.args.next_value.now c.loop-i.here c.loop-i.invariant.2 c.loop-i-test.true c.if-key-ge-MEMBERS.false w).0)
+    refused (λ w. omega (arith, c.if-on-here.true, (linked_so c.args.next_value.now c.loop-i.here c.loop-i.invariant.2 c.loop-i-test.true c.if-key-ge-MEMBERS.false w).0))
 
 pub overflow_add-many : goal.overflow_add-many
 overflow_add-many c =
@@ -99,11 +67,5 @@ loop-i-preserved c =
       omega (arith, c.loop-i-test.true),
       omega (arith, far),
       chaining_one c.loop-i.invariant.2 (more c.args.next_value.now c.loop-i.here c.loop-i.invariant.2 c.loop-i-test.true) c.if-key-ge-MEMBERS.false
-          c.if-not-in_use.false c.if-on-here.false c.if-back-last.false (omega (arith, far)),
+          c.if-not-in_use.false (omega arith) (omega arith) (omega (arith, far)),
     )
-
-pub returns : goal.returns
-returns c =
-    let a = c.args in
-    let l = c.loop-i in
-    walked (followed l.invariant.2 (walk_done (at a.next_value.now) (at a.next_value.now l.here) a.len l.i (omega arith)))

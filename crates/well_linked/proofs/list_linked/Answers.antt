@@ -1,10 +1,9 @@
 -- `well_linked::list_linked` meets its contract: the places in use, the freed ones besides, and the route. Assumes nothing.
 use native.Mathlib.Omega.{arith}
-use borrow.Author.Rules.{rules}
 use Rattle.index.proofs.Agree.{decides_map}
 use Rattle.links.specs.Places.{Places, Linked}
 use Rattle.well_linked.specs.Marks.{list_of}
-use Rattle.well_linked.proofs.Linking.{used_refused, used_below, freed_refused, linked_so}
+use Rattle.well_linked.proofs.Linking.{used_refused, freed_refused, linked_so}
 use Rattle.well_linked.proofs.list_linked.Goals as goal
 
 pub returns-then-not-mark : goal.returns-then-not-mark
@@ -17,12 +16,6 @@ returns-then-not-mark-2 c =
     let list : Places = list_of c.args.next.now c.args.previous.now c.args.root c.args.counts.now in
     freed_refused list 1024
     c.mark.ensures c.if-not-mark.false c.mark-2.ensures c.if-not-mark-2.true
-
-pub both_ways-requires : goal.both_ways-requires
-both_ways-requires c =
-    let list : Places = list_of c.args.next.now c.args.previous.now c.args.root c.args.counts.now in
-    let below = used_below list 1024 c.mark.ensures c.if-not-mark.false in
-    (omega arith, search rules, λ q h. omega (arith, below q h))
 
 pub returns : goal.returns
 returns c =

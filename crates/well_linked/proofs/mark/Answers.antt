@@ -1,15 +1,8 @@
 -- `well_linked::mark` meets its contract: what is marked and what is still to come are together the walk. Assumes nothing.
-use native.Mathlib.Nat.{sub-zero}
 use native.Mathlib.Omega.{arith}
-use Rattle.links.specs.Route.{walk}
 use Rattle.links.specs.Stores.{at}
-use Rattle.well_linked.proofs.Marking.{walk_more, walk_done, marking_none, marking_all, marking_one, marking_far, marking_seen}
+use Rattle.well_linked.proofs.Marking.{walk_more, marking_one, marking_far, marking_seen}
 use Rattle.well_linked.proofs.mark.Goals as goal
-
-pub loop-i-init : goal.loop-i-init
-loop-i-init c =
-    let a = c.args in
-    (omega arith, rw sub-zero (marking_none a.fresh (walk (at a.next.now) a.from a.many) a.met.now))
 
 pub returns-then-fresh-here : goal.returns-then-fresh-here
 returns-then-fresh-here c =
@@ -29,9 +22,3 @@ loop-i-preserved c =
     let l = c.loop-i in
     let more = walk_more (at a.next.now) l.here a.many l.i (omega arith) in
     (omega arith, marking_one l.invariant.1 more (omega arith) (omega arith) c.if-seen.false)
-
-pub returns : goal.returns
-returns c =
-    let a = c.args in
-    let l = c.loop-i in
-    marking_all l.invariant.1 (walk_done (at a.next.now) l.here a.many l.i (omega arith))
