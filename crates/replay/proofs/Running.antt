@@ -5,7 +5,7 @@ use mathlib.Core.Bool.{true, false}
 use mathlib.Core.List.{List, [], ◌∷◌, ◌++◌, append_assoc}
 use Prim.Native.Nat.{ℕ, suc, ◌+◌, ◌-◌, ◌≤◌, ◌<◌}
 use native.Mathlib.Nat.{add-zero, zero-add}
-use native.Mathlib.Numerals.{add-one, add-two, add-three, add_four, add_five, add_six, add_seven}
+use native.Mathlib.Numerals.{add-one, add-two, add-three, add-four, add_five, add_six, add_seven}
 use native.Mathlib.Omega.{arith}
 use lib.ListN.{length, take, drop, get_or, take-append-drop, length-append, length-drop}
 use lib.Seq.{drop-cons, drop-drop, take_at, drop_at, length-take-le}
@@ -34,7 +34,7 @@ module _ (xs ys : List ℕ) (a k : ℕ) (h : a + k ≤ length xs) (e : length ys
 drop_seven : (l : List ℕ) (i : ℕ) → i + 7 ≤ length l
     → drop i l ≡ get_or l i 0 ∷ get_or l (i + 1) 0 ∷ get_or l (i + 2) 0 ∷ get_or l (i + 3) 0 ∷ get_or l (i + 4) 0 ∷ get_or l (i + 5) 0 ∷ get_or l (i + 6) 0 ∷ drop (i + 7) l
 drop_seven l i h =
-    rw (add-one, add-two, add-three, add_four, add_five, add_six, add_seven)
+    rw (add-one, add-two, add-three, add-four, add_five, add_six, add_seven)
     (one i (omega arith)
     ∙ ap (λ (r : List ℕ). get_or l i 0 ∷ r) (one (suc i) (omega arith)
     ∙ ap (λ (r : List ℕ). get_or l (suc i) 0 ∷ r) (one (suc (suc i)) (omega arith)

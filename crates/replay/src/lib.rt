@@ -53,7 +53,7 @@ pub fn replay(
 }
 
 // The seven numbers of a call: which it is, its poster, its arguments, and the lengths of its out slice, its second one and its marks.
-#[derive(Drop)]
+#[derive(Clone, Copy)]
 struct Head {
     op: u64,
     poster: u64,
