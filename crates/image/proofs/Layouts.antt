@@ -7,14 +7,10 @@ use lib.ListN.{length, get_or, take, drop, length-append}
 use lib.Seq.{take_at, drop_at, drop-drop}
 use Rattle.fnv.specs.Fnv.{bytes}
 use Rattle.image.specs.Bytes.{array, layout}
-use Rattle.image.proofs.Writes.{length_bytes}
+use Rattle.image.proofs.Writes.{length_bytes, length_array}
 
 pub drop_bytes : (w x : ℕ) (rest : List ℕ) → drop w (bytes w x ++ rest) ≡ rest
 drop_bytes w x rest = drop_at (bytes w x) rest w (length_bytes w x)
-
-pub length_array : (xs : List ℕ) → length (array xs) ≡ 8 * length xs
-length_array [] = refl
-length_array (x ∷ xs) = length-append (bytes 8 x) (array xs) ∙ omega (arith, length_bytes 8 x, length_array xs)
 
 -- the i-th number of an array
 pub number_in : (xs rest : List ℕ) (i d : ℕ) → i < length xs → take 8 (drop (8 * i) (array xs ++ rest)) ≡ bytes 8 (get_or xs i d)

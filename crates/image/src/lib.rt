@@ -12,7 +12,7 @@ ghost use Rattle.multimap.specs.Arrays.{Arrays};
 ghost use Rattle.multimap.specs.Lent.{given, lent, left};
 ghost use Rattle.multimap.specs.Map.{at, limits_of, state_of};
 ghost use Rattle.multimap.specs.WellLinked.{WellLinked};
-ghost use Rattle.image.specs.Bytes.{number, numbers};
+ghost use Rattle.image.specs.Bytes.{array, number, numbers, layout};
 ghost use Rattle.image.specs.Running.{image_along};
 ghost use Rattle.image.specs.Image.{pair_up};
 ghost use Rattle.image.specs.Answers.{Writes, Restores};
@@ -41,7 +41,7 @@ pub fn om_write_image<'a>(
         answers::tell(answer, Answer::Refused(3));
         return;
     }
-    put_image(keys, values, key_index, next_value, n, joined, out);
+    put_along(keys, values, key_index, next_value, n, joined, out);
     answers::tell(answer, Answer::Count(size as u64));
 }
 
@@ -113,7 +113,7 @@ fn put(out: &mut [u8], at: usize, x: u64, width: usize)
 // Stores the sizes at the front of `out`, then pair by pair, along the links, a member in the first array and a round in the second. Where they
 // go is carried along: before each pair `Running` holds (document 02, No. 3).
 #[rattlefmt::skip]
-fn put_image<'a>(
+fn put_along<'a>(
     keys: &'a Keys, values: &'a Values, key_index: &'a KeyIndex, next_value: &'a ValueLinks, n: usize, m: u64, out: &mut [u8],
 )
     requires { 8 + 16 * n ≤ length out.old }
@@ -137,6 +137,31 @@ fn put_image<'a>(
         second += 8;
         i += 1;
     }
+}
+
+// Stores the numbers in the bytes from `at` on, eight each.
+fn put_all(out: &mut [u8], at: usize, numbers: &[u64])
+    requires { at + 8 * length numbers.now ≤ length out.old }
+    ensures { out.new ≡ sets out.old at (array numbers.now) }
+{
+    let mut i = 0;
+    while i < numbers.len() {
+        let x = numbers[i];
+        put(out, at + 8 * i, x, 8);
+        i += 1;
+    }
+}
+
+// Stores the sizes and the two arrays at the front of `out`: the writer as it was, which `put_along` stands for in `om_write_image`.
+fn put_image(out: &mut [u8], held: u64, members: &[u64], rounds: &[u64])
+    requires { 8 + 8 * length members.now + 8 * length rounds.now ≤ length out.old }
+    ensures { out.new ≡ sets out.old 0 (layout (length members.now) held members.now rounds.now) }
+{
+    let n = members.len();
+    put(out, 0, n as u64, 4);
+    put(out, 4, held, 4);
+    put_all(out, 8, members);
+    put_all(out, 8 + 8 * n, rounds);
 }
 
 // What an image says in its sizes: how many rounds and members; or the number by which they are refused.

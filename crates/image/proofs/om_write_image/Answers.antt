@@ -12,4 +12,4 @@ pub returns : goal.returns
 returns c =
     λ α e g.
     write_done α g c.held-n.result c.args.rounds.now e.5 c.held-n.ensures e.0 e.1 e.2 e.3 e.4 _ c.get-joined.ensures
-    c.args.out.now _ _ c.if-out-size.false c.put_image.ensures c.tell-2.ensures
+    c.args.out.now _ _ c.if-out-size.false c.put_along.ensures c.tell-2.ensures

@@ -1,6 +1,6 @@
 use Prim.Native.Nat.{◌-◌}
 use Rattle.image.specs.Running.{Running, image_along}
-use Rattle.image.proofs.put_image.Given as goal
+use Rattle.image.proofs.put_along.Given as goal
 
 abbrev pub invariant-loop-i : goal.invariant-loop-i
 invariant-loop-i l =
