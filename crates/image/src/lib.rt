@@ -1,5 +1,5 @@
 // The image of a map (document 01, module 7): sizes first, n rounds and m members in four bytes each, then n members and n rounds in eight
-// bytes each; every number lowest byte first. No exported function has a premise.
+// bytes each; every number lowest byte first. No public function has a premise.
 
 #![tactic(auto)]
 

@@ -1,5 +1,5 @@
-// The call that puts a round in the place of a member's record and hands the record out, in place. It has a crate of its own so that the compiler
-// puts `replace` and `admit`, of which each crate has then one caller, into it and into `om_insert`.
+// The call that puts a round in the place of a member's record and hands the record out, in place. It has a crate of its own: where each crate is
+// compiled by itself, each has then one caller of `replace` and `admit`, and the compiler puts them into it and into `om_insert`.
 
 #![tactic(auto)]
 

@@ -1,5 +1,5 @@
 // The call that takes the first round out, in place: its step of document 01 on a well-linked map; and `pop`, by which either end's round is taken
-// out. Each pop has a crate of its own so that the compiler puts `changing::leave`, of which each crate has then one call, into it.
+// out. Each pop has a crate of its own: where crates are compiled one by one, each has then one call of `changing::leave`, and the compiler puts it in.
 
 #![tactic(auto)]
 

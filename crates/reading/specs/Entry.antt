@@ -1,4 +1,4 @@
--- The entry of a number, by the search for it in the index. On a well-linked map it is the step's (proofs/Members.antt, entry-is).
+-- The entry of a number, by the search for it in the index. On a well-linked map it is the step's (proofs/Entries.antt, `entry_is`).
 use Rattle.std.specs.Prelude.{ℕ, List}
 use Rattle.steps.specs.Call.{Answer, occupied, vacant}
 use Rattle.links.specs.Stores.{at}

@@ -5,14 +5,11 @@ use lib.ListN.{length-set}
 use Rattle.printing.proofs.Puts.{put_cons}
 use Rattle.printing.proofs.putting.put_after.Goals as goal
 
--- src/printing.rt:37:5
 pub put_number-requires : goal.put_number-requires
 put_number-requires c = simp length-set (omega arith)
 
--- src/printing.rt:32:1
 pub shape_of-out : goal.shape_of-out
 shape_of-out c = c.put_number.auto.out ∙ simp length-set
 
--- src/printing.rt:32:1
 pub returns : goal.returns
 returns c = put_cons c.put_number.ensures
