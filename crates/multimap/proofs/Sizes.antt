@@ -20,7 +20,7 @@ use Rattle.multimap.proofs.Stores.{unmapped}
 use Rattle.multimap.specs.contracts.ListOrderedMultimap as types
 use Rattle.multimap.proofs.ListOrderedMultimap.TheLaws as laws
 
--- the arrays have the lengths that the type says: in a proof `c.good.0`, of the first parameter
+-- the arrays have the lengths that the type says
 abbrev pub Whole : ListOrderedMultimap → Type 0
 Whole m = Is (row types.the_type) m (val types.the_type laws.the_laws m ∷ [])
 
