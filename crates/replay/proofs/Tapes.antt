@@ -9,7 +9,6 @@ use lib.ListN.{length, take, drop, get_or, set, length-append, length-drop}
 use lib.Seq.{drop-drop}
 use borrow.Author.Tests.{ltb-true, leb-true, eqb-true}
 use Rattle.steps.specs.State.{State, Limits, empty}
-use Rattle.steps.specs.Call as C
 use Rattle.steps.specs.Call.{Outcome}
 use Rattle.steps.specs.Step.{over, outcomes, make_of}
 use Rattle.steps.specs.Proper.{New}

@@ -2,9 +2,8 @@
 use mathlib.Core.Path.{◌≡◌, sym, ◌∙◌}
 use Prim.Native.Nat.{◌-◌}
 use native.Mathlib.Omega.{arith}
-use lib.ListN.{length, take, drop}
+use lib.ListN.{length}
 use Rattle.multimap.specs.Arrays.{Arrays, arrays}
-use Rattle.replay.specs.Place.{Ready}
 use Rattle.replay.specs.declared.Head.{Head}
 use Rattle.replay.specs.declared.Place.{Place}
 use Rattle.replay.proofs.Tapes.{Fits, fits_says}

@@ -1,6 +1,6 @@
 -- `replay::run` meets its contract. The loop's invariant: whatever a run from here on comes to stands behind what is done (Reached of specs/Tape.antt).
 -- Assumes nothing.
-use mathlib.Core.Bool.{false, true≢false}
+use mathlib.Core.Bool.{true≢false}
 use Rattle.multimap.specs.Arrays.{Arrays, arrays}
 use Rattle.multimap.specs.WellLinked.{linked}
 use Rattle.replay.proofs.Running.{begins, stops}
@@ -11,8 +11,7 @@ pub loop-p-init : goal.loop-p-init
 loop-p-init c =
     let given : Arrays = arrays c.args.keys.now c.args.lengths.now c.args.next_key.now c.args.previous_key.now c.args.values.now
     c.args.key_index.now c.args.next_value.now c.args.previous_value.now c.args.next_index.now
-    c.args.previous_index.now c.args.index.now c.args.members.now c.args.rounds.now c.args.taken.now in
-    (
+    c.args.previous_index.now c.args.index.now c.args.members.now c.args.rounds.now c.args.taken.now in (
       begins linked c.args.calls.now c.args.outs.now c.args.outs2.now c.args.marks.now c.args.answers.now given c.requires,
       λ e. absurd (true≢false e),
     )

@@ -1,5 +1,5 @@
 -- `tapes::print_parts` meets its contract. Assumes nothing.
-use mathlib.Core.Path.{sym, ap, ◌∙◌, refl}
+use mathlib.Core.Path.{ap, ◌∙◌, refl}
 use Rattle.tapes.specs.Parts.{part_of, rest_of, numbers_of, marks_of}
 use Rattle.tapes.proofs.Lists.{front_of, limits_of, run_as}
 use Rattle.tapes.proofs.print_parts.Goals as goal

@@ -1,5 +1,4 @@
 -- `tapes::parts::read_marks` meets its contract. The loop's invariant: which marks are still to come. Assumes nothing.
-use Prim.Native.Nat.{◌-◌}
 use native.Mathlib.Omega.{arith}
 use Rattle.tapes.proofs.Holds.{come_all}
 use Rattle.tapes.proofs.Numbers.{marks_on, marks_done}

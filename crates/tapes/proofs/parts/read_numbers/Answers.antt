@@ -1,5 +1,4 @@
 -- `tapes::parts::read_numbers` meets its contract. The loop's invariant: which numbers are still to come. Assumes nothing.
-use Prim.Native.Nat.{◌-◌}
 use mathlib.Core.Path.{◌∙◌}
 use native.Mathlib.Omega.{arith}
 use Rattle.tapes.proofs.Holds.{come_all}

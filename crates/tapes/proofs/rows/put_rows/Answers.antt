@@ -1,5 +1,4 @@
 -- `tapes::rows::put_rows` meets its contract. The loop's invariant: which bytes are still to come. Assumes nothing.
-use Prim.Native.Nat.{◌-◌}
 use native.Mathlib.Omega.{arith}
 use Rattle.tapes.proofs.Holds.{come_all}
 use Rattle.tapes.proofs.Numbers.{rows_on, rows_done}
