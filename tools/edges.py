@@ -7,7 +7,7 @@ crates/replay/specs/Tape.antt, those of an answer in crates/steps/specs/Coded.an
 program that reads the text passes over it.
 
 The ceiling of T's counters, 4,294,967,295, is out of reach here: a counter grows by one with a call, and a list has a few thousand at most.
-That each counter is the number of its poster's accepted rounds, up to its ceiling, is proved of every list: `taken-counts`
+That each counter is the number of its poster's accepted rounds, up to its ceiling, is proved of every list: `taken_counts`
 (crates/steps/proofs/Taken.antt) of the steps, `counted` of `Obeys` (crates/steps/specs/Trace.antt) of the map.
 """
 import os

@@ -5,7 +5,8 @@
 
 For each NEED of a Proof.antt (without one: every returns and loop need) the places before it, each with how many steps of .before
 lead there from the need's c, and the facts that stand there. A function of a module file is named FILE/FN. It runs
-`rt check --generated` in the crate's folder. An Answers.antt names the facts without these steps.
+`rt check --generated` in the crate's folder. An Answers.antt, which is what this
+repository's proofs are, names the facts without these steps.
 
   tools/paths.py --lets NAME:K NAME:K ..
 

@@ -1,11 +1,14 @@
 #!/usr/bin/env python3
 """Spells the repository's own names in specs/, proofs/, clauses, must-fail edits and code spans of documents as today's Rattle does.
 
-usage: tools/respell.py [--check]       at the top, once, on what /opt/rattle/port/port.py made
+usage: tools/respell.py --check      shows which names fall together, and writes nothing
+       tools/respell.py --write      at the top, once, on what /opt/rattle/port/port.py made
+
+On files with answers to goals of today it is of no use: the goals' names, which Rattle makes, have dashes.
 
 Words are in snake case (hasMarks and insert-all become has_marks and insert_all), types in camel case (Given-one becomes GivenOne). A name
 that a file imports from the library keeps its spelling there. Functions of src/, exported C names, strings, inputs and outputs keep theirs:
-they have neither dashes nor capitals inside. --check writes nothing. Names that fall together are shown: `falls:` within one file's
+they have neither dashes nor capitals inside. Names that fall together are shown: `falls:` within one file's
 declarations, `hides:` where a file had both spellings before.
 """
 
@@ -154,7 +157,9 @@ def turn_source(text, table, kept, crate):
 
 
 def main():
-    check = "--check" in sys.argv[1:]
+    if sys.argv[1:] not in (["--check"], ["--write"]):
+        sys.exit(__doc__)
+    check = sys.argv[1] == "--check"
     texts = {p: read(p) for p in files()}
     declared = own_names(texts)
     table = {n: spelled(n) for n in declared if spelled(n) != n} | SPECIAL
