@@ -1,10 +1,10 @@
 #!/usr/bin/env python3
 """Spells the repository's own names in specs/, proofs/, clauses, must-fail edits and code spans of documents as today's Rattle does.
 
-usage: tools/respell.py --check      shows which names fall together, and writes nothing
-       tools/respell.py --write      at the top, once, on what /opt/rattle/port/port.py made
+usage: tools/respell.py              at the top, once, on what /opt/rattle/port/port.py made
+       tools/respell.py --check      shows which names fall together, and writes nothing
 
-On files with answers to goals of today it is of no use: the goals' names, which Rattle makes, have dashes.
+On files with answers to goals of today it writes nothing: the goals' names, which Rattle makes, have dashes.
 
 Words are in snake case (hasMarks and insert-all become has_marks and insert_all), types in camel case (Given-one becomes GivenOne). A name
 that a file imports from the library keeps its spelling there. Functions of src/, exported C names, strings, inputs and outputs keep theirs:
@@ -157,9 +157,11 @@ def turn_source(text, table, kept, crate):
 
 
 def main():
-    if sys.argv[1:] not in (["--check"], ["--write"]):
+    if sys.argv[1:] not in ([], ["--check"]):
         sys.exit(__doc__)
-    check = sys.argv[1] == "--check"
+    check = sys.argv[1:] == ["--check"]
+    if not check and any(p.endswith("/Answers.antt") and p.count("/") > 3 for p in files()):
+        sys.exit("respell: these files have answers to goals, and were respelled before: nothing is written")
     texts = {p: read(p) for p in files()}
     declared = own_names(texts)
     table = {n: spelled(n) for n in declared if spelled(n) != n} | SPECIAL
