@@ -1,6 +1,7 @@
 -- `reading::om_entry_len` meets its contract. Assumes nothing.
 use mathlib.Core.Path.{sym, ap, ◌∙◌}
 use lib.ListN.{length}
+use borrow.Author.Rules.{rules}
 use Rattle.steps.specs.Call.{count}
 use Rattle.steps.specs.Coded.{coded}
 use Rattle.reading.proofs.Entries.{entered, long_as, unoccupied}
@@ -12,10 +13,10 @@ returns-in_default c =
     λ α same g.
     let is = entered α g c.args.k _ _ _ same c.entry-a.result c.entry-a.ensures in
     told_entry_len α g c.args.k _
-    (c.tell.ensures ∙ ap (λ l. coded (count (length l))) (sym (unoccupied is c.in_default.not-Occupied).rounds))
+    (c.tell.ensures ∙ ap (λ l. coded (count (length l))) (sym (unoccupied is (search rules)).rounds))
 
 pub returns : goal.returns
 returns c =
     λ α same g.
     let is = entered α g c.args.k _ _ _ same c.entry-a.result c.entry-a.ensures in
-    told_entry_len α g c.args.k _ (c.tell-2.ensures ∙ ap (λ n. coded (count n)) (long_as is _ c.in-Occupied.is))
+    told_entry_len α g c.args.k _ (c.tell-2.ensures ∙ ap (λ n. coded (count n)) (long_as is _ (search rules)))
