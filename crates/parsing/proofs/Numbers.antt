@@ -34,6 +34,10 @@ large n bs h =
     (ap (λ (t : Bool). cond (all is_digit bs && t) (some (value_of n bs)) none) (le-ltb (value_of n bs) (2 ^ 64) (omega (arith, grows n bs)))
     ∙ ap (λ (t : Bool). cond t (some (value_of n bs)) none) (and-false (all is_digit bs)))
 
+-- a digit with which the value is not below 2^64
+pub past : (n b : ℕ) (bs : List ℕ) → 48 ≤ b → b ≤ 57 → 2 ^ 64 ≤ 10 * n + (b - 48) → none ≡ number_from n (b ∷ bs)
+past n b bs g h l = large (10 * n + (b - 48)) bs l ∙ more n b bs g h
+
 pub whole : (n : ℕ) → n < 2 ^ 64 → some n ≡ number_from n []
 whole n h = rw (lt-ltb n (2 ^ 64) h)
 

@@ -156,6 +156,7 @@ pub fn least(a: usize, b: usize) -> usize
 }
 
 // Adds one digit: No where the byte is none, or the value is not below 2^64.
+#[tactic(auto, using(crate::proofs::Numbers::past))]
 fn add_digit(value: u64, b: u8) -> Number
     ensures by_index { (bs : List ℕ) → followed result bs ≡ Line.number_from value (b ∷ bs) }
     ensures below { IsBelow result }
