@@ -1,7 +1,7 @@
 #!/usr/bin/env python3
 """Spells the repository's own names in specs/, proofs/, clauses, must-fail edits and code spans of documents as today's Rattle does.
 
-usage: tools/respell.py              at the top, once, on what /opt/rattle/port/port.py made
+usage: tools/respell.py              at the top, once, on what the kit's port/port.py made
        tools/respell.py --check      shows which names fall together, and writes nothing
 
 On files with answers to goals of today it writes nothing: the goals' names, which Rattle makes, have dashes.
