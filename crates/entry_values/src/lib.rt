@@ -10,13 +10,13 @@ ghost use Rattle.entry_values.specs.Reader.{Filled, Fresh, Gave, Stepped, filled
 ghost use Rattle.entry_values.specs.Mix.{Mixed, mark_of, marks, round_of};
 
 // A round, or none.
-#[derive(Drop)]
+#[derive(Clone, Copy)]
 pub enum Got {
     Nothing,
     Round(u64),
 }
 
-#[derive(Drop)]
+#[derive(Clone, Copy)]
 pub struct EntryValues<'a> {
     pub rounds: &'a [u64],
     // Of these the ones from front up to back, back not among them, are not given yet.
@@ -25,7 +25,7 @@ pub struct EntryValues<'a> {
 }
 
 // What one call answers, and the ends after it.
-#[derive(Drop)]
+#[derive(Clone, Copy)]
 pub struct Turn {
     pub answer: Got,
     pub front: usize,

@@ -20,7 +20,7 @@ pub struct KeyPlace(pub u16);
 
 // What a search finds: the member's place in the index, its member place and how many places were looked at;
 // or the first empty place, and how many were looked at.
-#[derive(Drop)]
+#[derive(Clone, Copy)]
 pub enum Found {
     At(usize, KeyPlace, usize),
     Absent(usize, usize),

@@ -15,7 +15,7 @@ use multimap::{
 use printing::MAX_PRINTED;
 
 // How many bytes were printed, how many of the unfinished line are held, and how many of the chunk were used.
-#[derive(Drop)]
+#[derive(Clone, Copy)]
 pub struct Progress {
     pub used: usize,
     pub held: usize,

@@ -49,7 +49,7 @@ pub type Taken = [u32; 16];
 pub struct ValuePlace(pub u16);
 
 #[repr(C)]
-#[derive(Drop)]
+#[derive(Clone, Copy)]
 pub struct ListOrderedMultimap {
     // Of a member place: the member number, and how many rounds it has.
     pub keys: [u64; 256],

@@ -25,7 +25,7 @@ pub use multimap::ListOrderedMultimap;
 use multimap::{ValuePlace, places};
 
 // The map that a call hands back, and what it answers.
-#[derive(Drop)]
+#[derive(Clone, Copy)]
 pub struct Reply {
     pub map: ListOrderedMultimap,
     pub answer: Answer,

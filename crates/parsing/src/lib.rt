@@ -7,7 +7,7 @@ ghost use Rattle.parsing.specs.Line as Line;
 ghost use Rattle.parsing.specs.Split.{gap as gap_of, Held, Took};
 ghost use Rattle.parsing.specs.Told.{told, told_number, followed, IsBelow};
 
-#[derive(Drop)]
+#[derive(Clone, Copy)]
 pub enum Number {
     Value(u64),
     No,
@@ -64,7 +64,7 @@ pub fn gap(s: &[u8], b: u8) -> usize
 }
 
 // What a line asks. The marks of Keeps are the line's bytes after its first two.
-#[derive(Drop)]
+#[derive(Clone, Copy)]
 pub enum Request {
     Adds(u64, u64),
     Inserts(u64, u64),
@@ -118,7 +118,7 @@ pub fn hold(bytes: &[u8], line: &mut [u8], held: usize) -> usize
 }
 
 // Whether a line ended, how many of its first bytes are held, and how many bytes of the chunk were used.
-#[derive(Drop)]
+#[derive(Clone, Copy)]
 pub struct Taken {
     pub ended: bool,
     pub held: usize,

@@ -19,7 +19,7 @@ use multimap::{ListOrderedMultimap, ValuePlace, places};
 use ordered_multimap::Reply;
 
 // The map that was checked, and whether it is well-linked.
-#[derive(Drop)]
+#[derive(Clone, Copy)]
 pub struct Checked {
     pub map: ListOrderedMultimap,
     pub yes: bool,
