@@ -3,8 +3,7 @@
 
 #![tactic(auto)]
 
-ghost use Rattle.std.specs.Prelude.{◌≤◌, ◌≡◌, length, IfOk};
-ghost use Rattle.multimap.specs.Arrays.{Arrays};
+ghost use Rattle.std.specs.Prelude.{◌≤◌, length, IfOk};
 ghost use Rattle.multimap.specs.Lent.{lent, left};
 ghost use Rattle.multimap.specs.WellLinked.{WellLinked};
 ghost use Rattle.printing.specs.Said.{Roomy};

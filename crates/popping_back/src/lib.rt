@@ -2,7 +2,7 @@
 
 #![tactic(auto)]
 
-ghost use Rattle.std.specs.Prelude.{◌≡◌, []};
+ghost use Rattle.std.specs.Prelude.{[]};
 ghost use Rattle.steps.specs.Call as C;
 ghost use Rattle.steps.specs.Told.{Told};
 ghost use Rattle.multimap.specs.Arrays.{Arrays};
