@@ -2,9 +2,8 @@
 # What Rust and C are told of libprelgammo.a, from the crates' sources: the `#[repr(C)]` record, and every function that is
 # marked `#[unsafe(no_mangle)] pub extern "C"`.
 #   tools/declarations.py             writes the files
-#   tools/declarations.py --check     fails, and says why, if one of them is not as it would write it, if prelgammo.h does not
-#                                     describe a function, or if an exported function does not promise what the crates' function
-#                                     of its name does
+#   tools/declarations.py --check     fails, and says why, if one of them is not as it would write it, or if prelgammo.h does not
+#                                     describe a function
 #   tools/declarations.py --symbol    prints the name that the layout and the signatures give the archive
 # That name has a hash of them. The archive defines it (bindings/library.sh) and the files refer to it, so an archive of another
 # layout does not link.
@@ -20,8 +19,9 @@ C = ROOT / 'bindings/c/prelgammo_declarations.h'
 DESCRIBED = ROOT / 'bindings/c/prelgammo.h'
 
 RECORD = 'ListOrderedMultimap'
-# The function whose first parameters are the record's arrays, in order.
-WHOLE = 'om_new'
+# The fields that Rust and C know by another name, or, of counts, by a name before each count's.
+KNOWN_AS = {'lengths': 'length', 'members': 'keys', 'rounds': 'values'}
+COUNTS = 'Counts'
 # Of each type of number: its bytes, and its name in C.
 NUMBERS = {
     'u8': (1, 'uint8_t'), 'u16': (2, 'uint16_t'), 'u32': (4, 'uint32_t'), 'u64': (8, 'uint64_t'), 'usize': (8, 'size_t'),
@@ -58,12 +58,9 @@ def check(library):
             status = 1
     described = DESCRIBED.read_text()
     for function in library.functions:
-        if library.split(function)[0] and f' {of_map(function)}(' not in described:
+        if function.map and f' {of_map(function)}(' not in described:
             print(f'{DESCRIBED.relative_to(ROOT)} does not describe {of_map(function)}', file=sys.stderr)
             status = 1
-    for name in library.unlike:
-        print(f'the exported {name} does not take and promise, word for word, what the function of its name does', file=sys.stderr)
-        status = 1
     return status
 
 
@@ -88,15 +85,28 @@ class Type:
         return self.align * (self.length or 1)
 
 
+# A field of the record; of counts, `parts` has the names of the numbers that lie side by side there.
 @dataclass
 class Field:
     name: str
     type: Type
     comments: list
+    parts: list = field(default_factory=list)
     at: int = 0
 
+    @property
+    def known_as(self):
+        return KNOWN_AS.get(self.name, self.name)
 
-# How a parameter passes: `number`, `record` (by value), `lent` (a reference to a number or an array) or `slice`.
+    # Rust knows each count by a name of its own, C all of them as an array of the field's name
+    def in_rust(self):
+        return [f'{self.known_as}_{part}: {self.type.number}' for part in self.parts] or [f'{self.known_as}: {self.type}']
+
+    def in_c(self):
+        return self.name if self.parts else self.known_as
+
+
+# How a parameter passes: `number`, `record` (by value), `map` (a reference to the record), `lent` (one to an array) or `slice`.
 @dataclass
 class Parameter:
     name: str
@@ -107,7 +117,7 @@ class Parameter:
     def __str__(self):
         if self.kind == 'record':
             return f'{self.name}: {RECORD}'
-        passed = f'[{self.type}]' if self.kind == 'slice' else str(self.type)
+        passed = RECORD if self.kind == 'map' else f'[{self.type}]' if self.kind == 'slice' else str(self.type)
         access = '' if self.kind == 'number' else '&mut ' if self.mutable else '&'
         return f'{self.name}: {access}{passed}'
 
@@ -117,40 +127,38 @@ class Function:
     name: str
     parameters: list
     gives: str
-    # whether it asks for a well-linked map
-    premise: bool
 
     def __str__(self):
         return f'fn {self.name}({", ".join(map(str, self.parameters))})' + (f' -> {self.gives}' if self.gives else '')
 
-
-# One array as it is lent: the parameter's name and type, and the fields of the record that it lies on.
-@dataclass
-class Array:
-    name: str
-    type: Type
-    fields: list
+    # The map that it is lent, if it is lent one, and its other parameters, which come after.
+    @property
+    def map(self):
+        return self.parameters[0] if self.parameters and self.parameters[0].kind == 'map' else None
 
     @property
-    def field(self):
-        return self.fields[0].name if len(self.fields) == 1 else self.name
+    def rest(self):
+        return self.parameters[1:] if self.map else self.parameters
+
+    # Every map was made or checked by a function that takes any record, so these refer to the symbol.
+    @property
+    def takes_any(self):
+        return bool(self.map) and self.name in ANY_RECORD
+
+
+# The functions that take whatever a record holds.
+ANY_RECORD = ('om_new', 'om_read_image', 'om_well_linked')
 
 
 @dataclass
 class Library:
     fields: list
     functions: list
-    arrays: list = field(default_factory=list)
-    # the names of the functions that do not promise what the crates' functions of their names do
-    unlike: list = field(default_factory=list)
 
     @staticmethod
     def read():
         sources = Sources.read()
-        functions = sorted(sources.functions(), key=lambda function: function.name)
-        library = Library(sources.record(), functions)
-        library.unlike = [f.name for f in functions if sources.stated('pub extern "C" fn', f.name) != sources.stated('pub fn', f.name)]
-        library.arrays = arrays(library.fields, next(f for f in functions if f.name == WHOLE))
+        library = Library(sources.record(), sorted(sources.functions(), key=lambda function: function.name))
         lay_out(library.fields)
         return library
 
@@ -161,38 +169,16 @@ class Library:
 
     @property
     def symbol(self):
-        text = [f'{f.name}: {f.type}' for f in self.fields] + [str(f) for f in self.functions]
+        text = [words for f in self.fields for words in f.in_rust()] + [str(f) for f in self.functions]
         return 'prelgammo_layout_' + hashlib.sha256('\n'.join(text).encode()).hexdigest()[:16]
-
-    # The arrays that a function is lent, and its other parameters, which come after.
-    def split(self, function):
-        known = {array.name: array for array in self.arrays}
-        lent = [p for p in function.parameters if p.name in known]
-        for parameter in lent:
-            if (parameter.kind, parameter.type) != ('lent', known[parameter.name].type):
-                sys.exit(f'{function.name}: {parameter} is not the array of that name')
-        if function.parameters[:len(lent)] != lent:
-            sys.exit(f'{function.name}: the arrays do not come first')
-        return [known[p.name] for p in lent], function.parameters[len(lent):]
-
-    def lent_all(self, function):
-        return self.split(function)[0] == self.arrays
-
-    # A function that takes any arrays: every map was made or checked by one, so these refer to the symbol.
-    def takes_any(self, function):
-        return self.lent_all(function) and not function.premise
-
-    def changes(self, function):
-        return any(p.mutable for p in function.parameters if p.name in {array.name for array in self.arrays})
 
 
 class Sources:
     def __init__(self, text):
         self.text = text
         self.code = re.sub(r'//[^\n]*', '', text)
-        named = re.findall(r'^pub type (\w+) = (.*);$', self.code, re.M)
         # a struct of one number has the number's memory
-        named += re.findall(FOR_C + r'pub struct (\w+)\(pub (\w+)\);', self.code)
+        named = re.findall(FOR_C + r'pub struct (\w+)\((?:pub )?(\w+)\);', self.code)
         self.types = dict(named)
         if len(self.types) != len(set(named)):
             sys.exit('two crates have types of one name')
@@ -223,26 +209,26 @@ class Sources:
                 comments.append(line[3:])
             else:
                 name, words = re.fullmatch(r'pub (\w+): (.*),', line).groups()
-                fields.append(Field(name, self.type(words), comments))
+                fields.append(self.field(name, words, comments))
                 comments = []
         return fields
 
+    def field(self, name, words, comments):
+        if words != COUNTS:
+            return Field(name, self.type(words), comments)
+        found = re.search(FOR_C + rf'pub struct {COUNTS} \{{\n(.*?)\n\}}', self.code, re.S)
+        parts = re.findall(r'pub (\w+): (\w+),', found[1])
+        numbers = {self.type(type) for _, type in parts}
+        if len(numbers) != 1:
+            sys.exit(f'{COUNTS} are not numbers of one type')
+        return Field(name, Type(numbers.pop().number, len(parts)), comments, [part for part, _ in parts])
+
     def functions(self):
-        # its name, parameters, what it gives, and the clauses of its contract, up to the body
-        form = r'pub extern "C" fn (\w+)(?:<[^>]*>)?\((.*?)\)(?: -> (\w+))?\s*\n(.*?)\n?\{\n'
+        form = r'pub extern "C" fn (\w+)\((.*?)\)(?: -> (\w+))?\s*\n.*?\n?\{\n'
         found = re.findall(re.escape(EXPORTED) + OTHERS + form, self.code, re.S)
         if len(found) != self.code.count(EXPORTED):
             sys.exit(f'a function marked {EXPORTED} has another form than those that are known')
-        asks = re.compile(r'requires(?: \w+)? \{[^}]*\bWellLinked\b')
-        return [Function(name, self.parameters(words), self.given(gives), bool(asks.search(clauses)))
-                for name, words, gives, clauses in found]
-
-    # What a function takes, gives and promises: the text from its name to its body, however it is laid out.
-    def stated(self, words, name):
-        found = re.findall(rf'^{words} {name}\b(.*?)^\{{$', self.code, re.M | re.S)
-        if len(found) != 1:
-            sys.exit(f'there are {len(found)} functions {words} {name}')
-        return re.sub(r'\(\s+', '(', re.sub(r',?\s+\)', ')', ' '.join(found[0].split())))
+        return [Function(name, self.parameters(words), self.given(gives)) for name, words, gives in found]
 
     def given(self, words):
         return words if words in ('', RECORD) else str(self.type(words))
@@ -254,28 +240,11 @@ class Sources:
         return [self.parameter(name, access, passed) for name, access, passed in split]
 
     def parameter(self, name, access, passed):
-        if passed == RECORD and not access:
-            return Parameter(name, 'record')
+        if passed == RECORD:
+            return Parameter(name, 'map' if access else 'record', None, 'mut' in access)
         element = re.fullmatch(r'\[(\w+)\]', passed)
         kind = 'slice' if element else 'lent' if access else 'number'
         return Parameter(name, kind, self.type(element[1] if element else passed), 'mut' in access)
-
-
-# Lays the parameters of the function that is lent everything over the record's fields, until each field has one: each on a field
-# of its type and name (or that name's plural), or an array of n numbers on n fields of one. The parameters after these are others.
-def arrays(fields, whole):
-    found, rest = [], list(fields)
-    for parameter in whole.parameters:
-        if not rest:
-            break
-        single = rest[0].type == parameter.type and parameter.name in (rest[0].name, rest[0].name + 's')
-        on, rest = (rest[:1], rest[1:]) if single else (rest[:parameter.type.length], rest[parameter.type.length:])
-        if not single and [f.type for f in on] != [Type(parameter.type.number)] * max(parameter.type.length, 1):
-            sys.exit(f'{whole.name}: {parameter} does not lie on fields of the record')
-        found.append(Array(parameter.name, parameter.type, on))
-    if rest:
-        sys.exit(f'{whole.name} is not lent {rest[0].name}')
-    return found
 
 
 # Gives each field its place, by the rules of C.
@@ -294,23 +263,22 @@ def aligned(at, to):
 
 
 def rust_file(library):
-    return '\n'.join([RUST_HEAD, rust_record(library), rust_lent_all(library), rust_lists(library), rust_others(library)])
+    return '\n'.join([RUST_HEAD, rust_record(library), rust_functions(library)])
 
 
 RUST_HEAD = '''\
-// Made by tools/declarations.py from crates/*/src, and not to be edited: the record of libprelgammo.a, its functions, and
-// for each function that is lent arrays of a record one that takes a pointer to the record. A slice is a pointer and a
-// length.
+// Made by tools/declarations.py from crates/*/src, and not to be edited: the record of libprelgammo.a and its functions. A
+// slice is a pointer and a length.
 #![allow(clippy::too_many_arguments, dead_code, unsafe_code)]
 
-use core::ptr::{addr_of, addr_of_mut};
+use core::ptr::addr_of;
 '''
 
 
 def rust_record(library):
     lines = []
     for each in library.fields:
-        lines += [f'    // {comment}' for comment in each.comments] + [f'    pub {each.name}: {each.type},']
+        lines += [f'    // {comment}' for comment in each.comments] + [f'    pub {words},' for words in each.in_rust()]
     return '\n'.join([f'''\
 /// The map as C sees it: one record of arrays, {library.bytes:,} bytes. The file `crates/multimap/src/lib.rt` says what each field
 /// has.
@@ -337,6 +305,8 @@ fn same_layout() {{
 def rust_type(parameter):
     if parameter.kind == 'record':
         return 'Record'
+    if parameter.kind == 'map':
+        return '*mut Record' if parameter.mutable else '*const Record'
     access = '' if parameter.kind == 'number' else '*mut ' if parameter.mutable else '*const '
     return f'{access}{parameter.type}'
 
@@ -353,91 +323,34 @@ def rust_arguments(parameters):
     return [words.split(':')[0] for words in rust_parameters(parameters)]
 
 
-# A pointer to an array of the record.
-def rust_pointer(array, pointer_to):
-    pointer = f'{pointer_to}!((*record).{array.fields[0].name})'
-    return pointer if len(array.fields) == 1 else f'{pointer}.cast::<{array.type}>()'
-
-
-def rust_lent_all(library):
-    declared = '\n'.join(f'                {a.name}: *$access {a.type},' for a in library.arrays)
-    passed = '\n'.join(f'                {rust_pointer(a, "$pointer_to")},' for a in library.arrays)
-    return f'''\
-// Declares functions that are lent all of the arrays and then take these arguments, and beside each the one of a record.
-macro_rules! lent_all {{
-    ($access:tt $pointer_to:ident $first:block
-        $($name:ident $function:ident($($argument:ident: $type:ty),*) $(-> $given:ty)?;)*) => {{
-        extern "C" {{
-            $(fn $function(
-{declared}
-                $($argument: $type),*
-            ) $(-> $given)?;)*
-        }}
-        $(pub unsafe fn $name(record: *$access Record, $($argument: $type),*) $(-> $given)? {{
-            $first
-            $function(
-{passed}
-                $($argument),*
-            )
-        }})*
-    }};
-}}
-'''
-
-
-# The functions that are lent all of the arrays: those that take any record, and those that ask for a well-linked one.
-def rust_lists(library):
-    lists = []
-    for any_record in (True, False):
-        for changes in (True, False):
-            lines = [rust_line(library, f) for f in library.functions
-                     if library.lent_all(f) and library.takes_any(f) == any_record and library.changes(f) == changes]
-            head = ('mut addr_of_mut ' if changes else 'const addr_of ') + ('{ same_layout() }' if any_record else '{}')
-            if lines:
-                lists.append('\n'.join([f'lent_all! {{ {head}', *lines, '}\n']))
-    return '\n'.join(lists)
-
-
-def rust_line(library, function):
-    parameters = list(rust_parameters(library.split(function)[1]))
-    gives = f' -> {function.gives}' if function.gives else ''
-    line = f'    {short(function)} {function.name}({", ".join(parameters)}){gives};'
-    if len(line) <= WIDTH:
-        return line
-    parameters = ',\n'.join(f'        {p}' for p in parameters)
-    return f'    {short(function)} {function.name}(\n{parameters}\n    ){gives};'
-
-
 def short(function):
     return function.name.removeprefix('om_')
 
 
-# The functions that are lent some of the arrays or none.
-def rust_others(library):
-    others = [f for f in library.functions if not library.lent_all(f)]
-    declared = '\n'.join(rust_declaration(library, f) for f in others)
-    records = '\n\n'.join(rust_of_record(library, f) for f in others if library.split(f)[0])
-    return f'extern "C" {{\n{declared}\n}}\n\n{records}\n'
+# The functions by their names without `om_`; those that take any record have the program refer to the symbol.
+def rust_functions(library):
+    declared = '\n'.join(rust_declaration(function) for function in library.functions)
+    checked = '\n\n'.join(rust_checked(function) for function in library.functions if function.takes_any)
+    return f'extern "C" {{\n{declared}\n}}\n\n{checked}\n'
 
 
-def rust_declaration(library, function):
-    parameters, gives, comment = list(rust_parameters(function.parameters)), function.gives, ''
+def rust_declaration(function):
+    parameters, gives, before = list(rust_parameters(function.parameters)), function.gives, ''
     if gives == RECORD:
         parameters, gives = ['given: *mut Record'] + parameters, ''
-        comment = '    // Gives a record back, for which the caller passes a pointer first (System V, amd64).\n'
-    # one that is lent arrays is called by the function of a record
-    word = 'fn' if library.split(function)[0] else 'pub fn'
-    return comment + rust_call(f'    {word} {function.name}', parameters, f' -> {gives};' if gives else ';')
+        before = '    // Gives a record back, for which the caller passes a pointer first (System V, amd64).\n'
+    name = f'pub fn {short(function)}' if function.map else f'pub fn {function.name}'
+    if function.takes_any:
+        name = f'fn {function.name}'
+    elif function.map:
+        before += f'    #[link_name = "{function.name}"]\n'
+    return before + rust_call(f'    {name}', parameters, f' -> {gives};' if gives else ';')
 
 
-def rust_of_record(library, function):
-    lent, rest = library.split(function)
-    if library.changes(function):
-        sys.exit(f'{function.name} changes some of the arrays and is not lent all')
-    parameters = ['record: *const Record'] + list(rust_parameters(rest))
-    arguments = [rust_pointer(array, 'addr_of') for array in lent] + rust_arguments(rest)
-    head = rust_call(f'pub unsafe fn {short(function)}', parameters, f' -> {function.gives} {{' if function.gives else ' {')
-    return '\n'.join([head, rust_call(f'    {function.name}', arguments, ''), '}'])
+def rust_checked(function):
+    head = rust_call(f'pub unsafe fn {short(function)}', list(rust_parameters(function.parameters)),
+                     f' -> {function.gives} {{' if function.gives else ' {')
+    return '\n'.join([head, '    same_layout();', rust_call(f'    {function.name}', rust_arguments(function.parameters), ''), '}'])
 
 
 # A head with a list in parentheses as rustfmt lays it out: on one line, or each on its own.
@@ -469,16 +382,16 @@ def c_number(type):
     return NUMBERS[type.number][1]
 
 
-def c_field(array):
-    return f'{c_number(array.type)} {array.field}' + (f'[{array.type.length}]' if array.type.length else '')
+def c_field(each):
+    return f'{c_number(each.type)} {each.in_c()}' + (f'[{each.type.length}]' if each.type.length else '')
 
 
 def c_record(library):
     lines = []
-    for array in library.arrays:
-        comment = '\n     * '.join(array.fields[0].comments)
-        lines += [f'    /* {comment} */'] * bool(comment) + [f'    {c_field(array)};']
-    places = [f'static_assert(offsetof(om_map, {a.field}) == {a.fields[0].at}, "{a.field}");' for a in library.arrays]
+    for each in library.fields:
+        comment = '\n     * '.join(each.comments)
+        lines += [f'    /* {comment} */'] * bool(comment) + [f'    {c_field(each)};']
+    places = [f'static_assert(offsetof(om_map, {f.in_c()}) == {f.at}, "{f.in_c()}");' for f in library.fields]
     return '\n'.join(['struct om_map {', *lines, f'''\
 }};
 
@@ -498,6 +411,8 @@ def c_parameters(parameters):
         const = '' if p.mutable or p.kind in ('number', 'record') else 'const '
         if p.kind == 'record':
             yield f'om_map {p.name}'
+        elif p.kind == 'map':
+            yield f'{const}om_map *{p.name}'
         elif p.kind == 'number':
             yield f'{c_number(p.type)} {p.name}'
         elif p.kind == 'lent' and p.type.length:
@@ -517,29 +432,12 @@ def c_gives(function):
 
 
 def c_declarations(library):
-    whole = next(f for f in library.functions if f.name == WHOLE)
-    arrays = [f'CONST {words}' for words in c_parameters(whole.parameters[:len(library.arrays)])]
-    lines = [c_declaration(library, function) for function in library.functions]
-    return '\n'.join(['/* The functions of the library. They take the arrays of a map one by one. */',
-                      c_macro('OM_ARRAYS(CONST)', arrays), '', *lines, '', '#undef OM_ARRAYS', ''])
-
-
-def c_declaration(library, function):
-    parameters = list(c_parameters(function.parameters))
-    if library.lent_all(function):
-        const = '' if library.changes(function) else 'const'
-        parameters = [f'OM_ARRAYS({const})'] + list(c_parameters(library.split(function)[1]))
-    return c_call(f'{c_gives(function)} {function.name}(', parameters, ');')
-
-
-def c_pointer(array):
-    return f'm->{array.field}' if array.type.length else f'&m->{array.field}'
+    lines = [c_call(f'{c_gives(f)} {f.name}(', list(c_parameters(f.parameters)), ');') for f in library.functions]
+    return '\n'.join(['/* The functions of the library. */', *lines, ''])
 
 
 def c_of_map(library):
-    bodies = [c_body(library, function) for function in library.functions if library.split(function)[0]]
-    lent = c_macro('OM_LENT', [c_pointer(array) for array in library.arrays])
-    return '\n'.join(['/* The arrays of the map m, in order. */', lent, '', '\n\n'.join(bodies), '', '#undef OM_LENT', ''])
+    return '\n\n'.join(c_body(function) for function in library.functions if function.map) + '\n'
 
 
 def of_map(function):
@@ -547,18 +445,16 @@ def of_map(function):
 
 
 # The function of a map: it gives back the answer where the library's function writes one.
-def c_body(library, function):
-    lent, rest = library.split(function)
-    arguments = ['OM_LENT'] if library.lent_all(function) else [c_pointer(array) for array in lent]
-    says = bool(rest) and rest[-1].name == 'answer'
-    shown = rest[:-1] if says else rest
-    arguments += c_arguments(shown) + (['said.answer'] if says else [])
-    taken = 'om_map *m' if library.changes(function) else 'const om_map *m'
+def c_body(function):
+    says = bool(function.rest) and function.rest[-1].name == 'answer'
+    shown = function.rest[:-1] if says else function.rest
+    arguments = ['m'] + c_arguments(shown) + (['said.answer'] if says else [])
+    taken = 'om_map *m' if function.map.mutable else 'const om_map *m'
     gives = 'om_said' if says else c_gives(function)
     call = f'    return {function.name}(' if function.gives and not says else f'    {function.name}('
     lines = [c_call(f'static inline {gives} {of_map(function)}(', [taken] + list(c_parameters(shown)), ') {')]
     lines += ['    om_said said;'] if says else []
-    lines += ['    om_same_layout();'] if library.takes_any(function) else []
+    lines += ['    om_same_layout();'] if function.takes_any else []
     lines += [c_call(call, arguments, ');')]
     lines += ['    return said;'] if says else []
     return '\n'.join(lines + ['}'])
@@ -573,17 +469,6 @@ def c_call(head, items, tail):
             lines, line = lines + [line], ' ' * len(head)
         line += item if line in (head, ' ' * len(head)) else f' {item}'
     return '\n'.join(lines + [line])
-
-
-def c_macro(name, items):
-    lines = [f'#define {name}', '    ' + items[0]]
-    for item in items[1:]:
-        lines[-1] += ','
-        if len(lines[-1]) + len(item) + 5 > WIDTH:
-            lines.append('        ' + item)
-        else:
-            lines[-1] += f' {item}'
-    return '\n'.join([f'{line:<{WIDTH - 2}}\\' for line in lines[:-1]] + [lines[-1]])
 
 
 main()

@@ -11,9 +11,9 @@
  * Every call that adds a round takes a poster first, from 0 to 15, and counts the round for it. om_map_taken gives the
  * sixteen counters, which are a part of the map.
  *
- * Stack: om_map_read_image takes 33 KB of it, om_map_write_image 17 KB, om_map_pack_to and om_map_call 13 KB, each other
- * function of a map less than 3 KB; replay takes 38 KB, and om_turn, which has the map by value, 101 KB, of which 48 KB are
- * the caller's two copies. stack.c measures it and holds it to OM_STACK and OM_STACK_BY_VALUE.
+ * Stack: om_map_read_image takes 24 KB of it, om_map_pack_to and om_map_call 13 KB, each other function of a map less than
+ * 3 KB; replay takes 37 KB, and om_turn, which has the map by value, 108 KB, of which 48 KB are the caller's two copies.
+ * stack.c measures it and holds it to OM_STACK and OM_STACK_BY_VALUE.
  *
  * A slice is a pointer and a length. The pointer is never NULL, also where the length is 0, and the slices of one call
  * overlap neither each other nor the map. An out slice may be longer than needed; what stands past the count that was
@@ -167,9 +167,10 @@ static inline om_said om_map_write_image(const om_map *m, uint8_t *out, size_t o
 static inline om_said om_map_read_image(om_map *m, uint64_t members_limit, uint64_t rounds_limit, const uint8_t *bytes,
                                         size_t bytes_len);
 
-/* Declares the library's own functions: om_append and so on, which take the map's arrays one by one and which those above
- * call; om_turn, which is om_map_call with the map by value; and replay, which runs a list of calls on the map that om_new
- * makes with its limits, and gives back how many it ran (oracle/README.md says how the list is laid out). */
+/* Declares the library's own functions: om_append and so on, which take a pointer to the map and write the four numbers of
+ * an answer, and which those above call; om_turn, which is om_map_call with the map by value; and replay, which runs a list
+ * of calls on the map that om_new makes with its limits, and gives back how many it ran (oracle/README.md says how the list
+ * is laid out). */
 #include "prelgammo_declarations.h"
 
 #ifdef __cplusplus

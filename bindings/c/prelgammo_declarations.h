@@ -23,7 +23,7 @@ struct om_map {
     uint16_t previous_index[1280];
     /* The index: member places, or EMPTY. */
     uint16_t index[512];
-    /* How many places are in use, how many have ever been, the first freed one, from which the others follow by next, and the map's limit. */
+    /* The counts of both lists, the map's limits among them. */
     uint16_t members[4];
     uint16_t rounds[4];
     /* Rounds ever taken in, of each poster. */
@@ -47,78 +47,54 @@ static_assert(offsetof(om_map, rounds) == 24084, "rounds");
 static_assert(offsetof(om_map, taken) == 24092, "taken");
 
 /* Defined by an archive of this layout and these signatures alone: another one does not link. */
-extern const unsigned char prelgammo_layout_16d0a76d6150a04c;
+extern const unsigned char prelgammo_layout_b340bb707711f605;
 
 static inline void om_same_layout(void) {
-    (void)*(const volatile unsigned char *)&prelgammo_layout_16d0a76d6150a04c;
+    (void)*(const volatile unsigned char *)&prelgammo_layout_b340bb707711f605;
 }
 
-/* The functions of the library. They take the arrays of a map one by one. */
-#define OM_ARRAYS(CONST)                                                                                              \
-    CONST uint64_t keys[256], CONST uint16_t lengths[256], CONST uint16_t next_key[257],                              \
-        CONST uint16_t previous_key[257], CONST uint64_t values[1024], CONST uint16_t key_index[1024],                \
-        CONST uint16_t next_value[1025], CONST uint16_t previous_value[1025], CONST uint16_t next_index[1280],        \
-        CONST uint16_t previous_index[1280], CONST uint16_t index[512], CONST uint16_t members[4],                    \
-        CONST uint16_t rounds[4], CONST uint32_t taken[16]
-
-void om_append(OM_ARRAYS(), uint64_t poster, uint64_t k, uint64_t v, uint64_t answer[4]);
-void om_call(OM_ARRAYS(), uint64_t op, uint64_t poster, uint64_t k, uint64_t v, uint64_t *out, size_t out_len,
+/* The functions of the library. */
+void om_append(om_map *map, uint64_t poster, uint64_t k, uint64_t v, uint64_t answer[4]);
+void om_call(om_map *map, uint64_t op, uint64_t poster, uint64_t k, uint64_t v, uint64_t *out, size_t out_len,
              uint64_t *out2, size_t out2_len, const uint8_t *marks, size_t marks_len, uint64_t answer[4]);
-void om_clear(OM_ARRAYS(), uint64_t answer[4]);
-void om_contains_key(const uint64_t keys[256], const uint16_t index[512], uint64_t k, uint64_t answer[4]);
-void om_entry(const uint64_t keys[256], const uint16_t lengths[256], const uint16_t index[512], uint64_t k,
-              uint64_t answer[4]);
-void om_entry_len(const uint64_t keys[256], const uint16_t lengths[256], const uint16_t index[512], uint64_t k,
-                  uint64_t answer[4]);
-void om_get(const uint64_t keys[256], const uint64_t values[1024], const uint16_t next_index[1280],
-            const uint16_t index[512], uint64_t k, uint64_t answer[4]);
-void om_get_all(const uint64_t keys[256], const uint16_t lengths[256], const uint64_t values[1024],
-                const uint16_t next_index[1280], const uint16_t index[512], uint64_t k, uint64_t *out, size_t out_len,
-                uint64_t answer[4]);
-void om_insert(OM_ARRAYS(), uint64_t poster, uint64_t k, uint64_t v, uint64_t answer[4]);
-void om_insert_all(OM_ARRAYS(), uint64_t poster, uint64_t k, uint64_t v, uint64_t *out, size_t out_len,
+void om_clear(om_map *map, uint64_t answer[4]);
+void om_contains_key(const om_map *map, uint64_t k, uint64_t answer[4]);
+void om_entry(const om_map *map, uint64_t k, uint64_t answer[4]);
+void om_entry_len(const om_map *map, uint64_t k, uint64_t answer[4]);
+void om_get(const om_map *map, uint64_t k, uint64_t answer[4]);
+void om_get_all(const om_map *map, uint64_t k, uint64_t *out, size_t out_len, uint64_t answer[4]);
+void om_insert(om_map *map, uint64_t poster, uint64_t k, uint64_t v, uint64_t answer[4]);
+void om_insert_all(om_map *map, uint64_t poster, uint64_t k, uint64_t v, uint64_t *out, size_t out_len,
                    uint64_t answer[4]);
-void om_iter(const uint64_t keys[256], const uint64_t values[1024], const uint16_t key_index[1024],
-             const uint16_t next_value[1025], const uint16_t rounds[4], uint64_t *out, size_t out_len, uint64_t *out2,
-             size_t out2_len, uint64_t answer[4]);
-void om_keys(const uint64_t keys[256], const uint16_t next_key[257], const uint16_t members[4], uint64_t *out,
-             size_t out_len, uint64_t answer[4]);
-void om_keys_len(const uint16_t members[4], uint64_t answer[4]);
-void om_new(OM_ARRAYS(), uint64_t members_limit, uint64_t rounds_limit, uint64_t answer[4]);
-void om_occupied_append(OM_ARRAYS(), uint64_t poster, uint64_t k, uint64_t v, uint64_t answer[4]);
-void om_occupied_insert(OM_ARRAYS(), uint64_t poster, uint64_t k, uint64_t v, uint64_t answer[4]);
-void om_occupied_remove_entry(OM_ARRAYS(), uint64_t k, uint64_t answer[4]);
-void om_pack_to(OM_ARRAYS(), uint64_t keys_minimum, uint64_t values_minimum, uint64_t answer[4]);
-void om_pop_back(OM_ARRAYS(), uint64_t answer[4]);
-void om_pop_front(OM_ARRAYS(), uint64_t answer[4]);
-void om_read_image(OM_ARRAYS(), uint64_t members_limit, uint64_t rounds_limit, const uint8_t *bytes, size_t bytes_len,
+void om_iter(const om_map *map, uint64_t *out, size_t out_len, uint64_t *out2, size_t out2_len, uint64_t answer[4]);
+void om_keys(const om_map *map, uint64_t *out, size_t out_len, uint64_t answer[4]);
+void om_keys_len(const om_map *map, uint64_t answer[4]);
+void om_new(om_map *map, uint64_t members_limit, uint64_t rounds_limit, uint64_t answer[4]);
+void om_occupied_append(om_map *map, uint64_t poster, uint64_t k, uint64_t v, uint64_t answer[4]);
+void om_occupied_insert(om_map *map, uint64_t poster, uint64_t k, uint64_t v, uint64_t answer[4]);
+void om_occupied_remove_entry(om_map *map, uint64_t k, uint64_t answer[4]);
+void om_pack_to(om_map *map, uint64_t keys_minimum, uint64_t values_minimum, uint64_t answer[4]);
+void om_pop_back(om_map *map, uint64_t answer[4]);
+void om_pop_front(om_map *map, uint64_t answer[4]);
+void om_read_image(om_map *map, uint64_t members_limit, uint64_t rounds_limit, const uint8_t *bytes, size_t bytes_len,
                    uint64_t answer[4]);
-void om_remove(OM_ARRAYS(), uint64_t k, uint64_t answer[4]);
-void om_remove_all(OM_ARRAYS(), uint64_t k, uint64_t *out, size_t out_len, uint64_t answer[4]);
-void om_retain(OM_ARRAYS(), const uint8_t *marks, size_t marks_len, uint64_t answer[4]);
-void om_taken(const uint32_t taken[16], uint64_t out[16], uint64_t answer[4]);
+void om_remove(om_map *map, uint64_t k, uint64_t answer[4]);
+void om_remove_all(om_map *map, uint64_t k, uint64_t *out, size_t out_len, uint64_t answer[4]);
+void om_retain(om_map *map, const uint8_t *marks, size_t marks_len, uint64_t answer[4]);
+void om_taken(const om_map *map, uint64_t out[16], uint64_t answer[4]);
 om_map om_turn(om_map m, uint64_t op, uint64_t poster, uint64_t k, uint64_t v, uint64_t *out, size_t out_len,
                uint64_t *out2, size_t out2_len, const uint8_t *marks, size_t marks_len, uint64_t answer[4]);
-void om_vacant_insert(OM_ARRAYS(), uint64_t poster, uint64_t k, uint64_t v, uint64_t answer[4]);
-void om_values_len(const uint16_t rounds[4], uint64_t answer[4]);
-uint64_t om_well_linked(OM_ARRAYS(const));
-void om_write_image(const uint64_t keys[256], const uint64_t values[1024], const uint16_t key_index[1024],
-                    const uint16_t next_value[1025], const uint16_t members[4], const uint16_t rounds[4], uint8_t *out,
-                    size_t out_len, uint64_t answer[4]);
+void om_vacant_insert(om_map *map, uint64_t poster, uint64_t k, uint64_t v, uint64_t answer[4]);
+void om_values_len(const om_map *map, uint64_t answer[4]);
+uint64_t om_well_linked(const om_map *map);
+void om_write_image(const om_map *map, uint8_t *out, size_t out_len, uint64_t answer[4]);
 uint64_t replay(uint64_t members_limit, uint64_t rounds_limit, const uint64_t *calls, size_t calls_len, uint64_t *outs,
                 size_t outs_len, uint64_t *outs2, size_t outs2_len, const uint8_t *marks, size_t marks_len,
                 uint64_t *answers, size_t answers_len);
 
-#undef OM_ARRAYS
-
-/* The arrays of the map m, in order. */
-#define OM_LENT                                                                                                       \
-    m->keys, m->length, m->next_key, m->previous_key, m->values, m->key_index, m->next_value, m->previous_value,      \
-        m->next_index, m->previous_index, m->index, m->members, m->rounds, m->taken
-
 static inline om_said om_map_append(om_map *m, uint64_t poster, uint64_t k, uint64_t v) {
     om_said said;
-    om_append(OM_LENT, poster, k, v, said.answer);
+    om_append(m, poster, k, v, said.answer);
     return said;
 }
 
@@ -126,117 +102,117 @@ static inline om_said om_map_call(om_map *m, uint64_t op, uint64_t poster, uint6
                                   size_t out_len, uint64_t *out2, size_t out2_len, const uint8_t *marks,
                                   size_t marks_len) {
     om_said said;
-    om_call(OM_LENT, op, poster, k, v, out, out_len, out2, out2_len, marks, marks_len, said.answer);
+    om_call(m, op, poster, k, v, out, out_len, out2, out2_len, marks, marks_len, said.answer);
     return said;
 }
 
 static inline om_said om_map_clear(om_map *m) {
     om_said said;
-    om_clear(OM_LENT, said.answer);
+    om_clear(m, said.answer);
     return said;
 }
 
 static inline om_said om_map_contains_key(const om_map *m, uint64_t k) {
     om_said said;
-    om_contains_key(m->keys, m->index, k, said.answer);
+    om_contains_key(m, k, said.answer);
     return said;
 }
 
 static inline om_said om_map_entry(const om_map *m, uint64_t k) {
     om_said said;
-    om_entry(m->keys, m->length, m->index, k, said.answer);
+    om_entry(m, k, said.answer);
     return said;
 }
 
 static inline om_said om_map_entry_len(const om_map *m, uint64_t k) {
     om_said said;
-    om_entry_len(m->keys, m->length, m->index, k, said.answer);
+    om_entry_len(m, k, said.answer);
     return said;
 }
 
 static inline om_said om_map_get(const om_map *m, uint64_t k) {
     om_said said;
-    om_get(m->keys, m->values, m->next_index, m->index, k, said.answer);
+    om_get(m, k, said.answer);
     return said;
 }
 
 static inline om_said om_map_get_all(const om_map *m, uint64_t k, uint64_t *out, size_t out_len) {
     om_said said;
-    om_get_all(m->keys, m->length, m->values, m->next_index, m->index, k, out, out_len, said.answer);
+    om_get_all(m, k, out, out_len, said.answer);
     return said;
 }
 
 static inline om_said om_map_insert(om_map *m, uint64_t poster, uint64_t k, uint64_t v) {
     om_said said;
-    om_insert(OM_LENT, poster, k, v, said.answer);
+    om_insert(m, poster, k, v, said.answer);
     return said;
 }
 
 static inline om_said om_map_insert_all(om_map *m, uint64_t poster, uint64_t k, uint64_t v, uint64_t *out,
                                         size_t out_len) {
     om_said said;
-    om_insert_all(OM_LENT, poster, k, v, out, out_len, said.answer);
+    om_insert_all(m, poster, k, v, out, out_len, said.answer);
     return said;
 }
 
 static inline om_said om_map_iter(const om_map *m, uint64_t *out, size_t out_len, uint64_t *out2, size_t out2_len) {
     om_said said;
-    om_iter(m->keys, m->values, m->key_index, m->next_value, m->rounds, out, out_len, out2, out2_len, said.answer);
+    om_iter(m, out, out_len, out2, out2_len, said.answer);
     return said;
 }
 
 static inline om_said om_map_keys(const om_map *m, uint64_t *out, size_t out_len) {
     om_said said;
-    om_keys(m->keys, m->next_key, m->members, out, out_len, said.answer);
+    om_keys(m, out, out_len, said.answer);
     return said;
 }
 
 static inline om_said om_map_keys_len(const om_map *m) {
     om_said said;
-    om_keys_len(m->members, said.answer);
+    om_keys_len(m, said.answer);
     return said;
 }
 
 static inline om_said om_map_new(om_map *m, uint64_t members_limit, uint64_t rounds_limit) {
     om_said said;
     om_same_layout();
-    om_new(OM_LENT, members_limit, rounds_limit, said.answer);
+    om_new(m, members_limit, rounds_limit, said.answer);
     return said;
 }
 
 static inline om_said om_map_occupied_append(om_map *m, uint64_t poster, uint64_t k, uint64_t v) {
     om_said said;
-    om_occupied_append(OM_LENT, poster, k, v, said.answer);
+    om_occupied_append(m, poster, k, v, said.answer);
     return said;
 }
 
 static inline om_said om_map_occupied_insert(om_map *m, uint64_t poster, uint64_t k, uint64_t v) {
     om_said said;
-    om_occupied_insert(OM_LENT, poster, k, v, said.answer);
+    om_occupied_insert(m, poster, k, v, said.answer);
     return said;
 }
 
 static inline om_said om_map_occupied_remove_entry(om_map *m, uint64_t k) {
     om_said said;
-    om_occupied_remove_entry(OM_LENT, k, said.answer);
+    om_occupied_remove_entry(m, k, said.answer);
     return said;
 }
 
 static inline om_said om_map_pack_to(om_map *m, uint64_t keys_minimum, uint64_t values_minimum) {
     om_said said;
-    om_pack_to(OM_LENT, keys_minimum, values_minimum, said.answer);
+    om_pack_to(m, keys_minimum, values_minimum, said.answer);
     return said;
 }
 
 static inline om_said om_map_pop_back(om_map *m) {
     om_said said;
-    om_pop_back(OM_LENT, said.answer);
+    om_pop_back(m, said.answer);
     return said;
 }
 
 static inline om_said om_map_pop_front(om_map *m) {
     om_said said;
-    om_pop_front(OM_LENT, said.answer);
+    om_pop_front(m, said.answer);
     return said;
 }
 
@@ -244,55 +220,53 @@ static inline om_said om_map_read_image(om_map *m, uint64_t members_limit, uint6
                                         size_t bytes_len) {
     om_said said;
     om_same_layout();
-    om_read_image(OM_LENT, members_limit, rounds_limit, bytes, bytes_len, said.answer);
+    om_read_image(m, members_limit, rounds_limit, bytes, bytes_len, said.answer);
     return said;
 }
 
 static inline om_said om_map_remove(om_map *m, uint64_t k) {
     om_said said;
-    om_remove(OM_LENT, k, said.answer);
+    om_remove(m, k, said.answer);
     return said;
 }
 
 static inline om_said om_map_remove_all(om_map *m, uint64_t k, uint64_t *out, size_t out_len) {
     om_said said;
-    om_remove_all(OM_LENT, k, out, out_len, said.answer);
+    om_remove_all(m, k, out, out_len, said.answer);
     return said;
 }
 
 static inline om_said om_map_retain(om_map *m, const uint8_t *marks, size_t marks_len) {
     om_said said;
-    om_retain(OM_LENT, marks, marks_len, said.answer);
+    om_retain(m, marks, marks_len, said.answer);
     return said;
 }
 
 static inline om_said om_map_taken(const om_map *m, uint64_t out[16]) {
     om_said said;
-    om_taken(m->taken, out, said.answer);
+    om_taken(m, out, said.answer);
     return said;
 }
 
 static inline om_said om_map_vacant_insert(om_map *m, uint64_t poster, uint64_t k, uint64_t v) {
     om_said said;
-    om_vacant_insert(OM_LENT, poster, k, v, said.answer);
+    om_vacant_insert(m, poster, k, v, said.answer);
     return said;
 }
 
 static inline om_said om_map_values_len(const om_map *m) {
     om_said said;
-    om_values_len(m->rounds, said.answer);
+    om_values_len(m, said.answer);
     return said;
 }
 
 static inline uint64_t om_map_well_linked(const om_map *m) {
     om_same_layout();
-    return om_well_linked(OM_LENT);
+    return om_well_linked(m);
 }
 
 static inline om_said om_map_write_image(const om_map *m, uint8_t *out, size_t out_len) {
     om_said said;
-    om_write_image(m->keys, m->values, m->key_index, m->next_value, m->members, m->rounds, out, out_len, said.answer);
+    om_write_image(m, out, out_len, said.answer);
     return said;
 }
-
-#undef OM_LENT

@@ -11,7 +11,7 @@ const RANDOM_STRINGS: u64 = 1_000_000;
 
 struct Reader {
     map: PortMap,
-    // what the map's arrays hold before an image is read to them, in turn
+    // what the record holds before an image is read into it, in turn
     garbage: Vec<Map>,
     // how many strings were read, by the number of their refusal; 0 for none
     read: RefusedBy,
@@ -51,7 +51,7 @@ fn print_tally(name: &str, read: &RefusedBy) {
 }
 
 impl Reader {
-    // Reads the bytes on both sides into these limits, for the port to arrays that hold anything, and compares answer and map;
+    // Reads the bytes on both sides into these limits, for the port into a record that holds anything, and compares answer and map;
     // then writes the map again.
     fn read(&mut self, limits: Limits, bytes: &[u8]) -> Result<(), String> {
         let what = format_args!("  om_read_image with {} of {:?}", limits, bytes);

@@ -81,7 +81,7 @@ impl PortMap {
     #[inline]
     pub unsafe fn make(&mut self, call: &Call, out: &mut [u64], out2: &mut [u64], answer: *mut [u64; 4]) {
         let (poster, k, v, marks, map) = (call.poster, call.k, call.v, &call.marks, &mut *self.map);
-        // the arrays are lent for the call; each pointer and length are those of one slice, and nothing overlaps
+        // the record is lent for the call; each pointer and length are those of one slice, and nothing overlaps
         unsafe {
             match call.op {
                 Op::Append => declarations::append(map, poster, k, v, answer),

@@ -5,7 +5,7 @@ use crate::answer::Answer;
 pub use crate::declarations::Record;
 use crate::{declarations, Refused, POSTERS};
 
-// The library's functions are lent the map's arrays one by one, and change them where they stand. Every function but
+// The library's functions are lent the map's record, and change it where it stands. Every function but
 // om_new, om_well_linked and om_read_image asks that the map is well-linked.
 
 // The answer of a function that may change the map. The premise holds, since a Map is well-linked. The record is lent
@@ -51,7 +51,7 @@ impl Map {
     // The empty map with these limits, or with both 0 where the answer is a refusal.
     pub fn new(members: u64, rounds: u64) -> (Map, Answer) {
         let mut answer = [0; 4];
-        // om_new writes every array whole
+        // om_new writes every field
         let record = made(|record| unsafe { declarations::new(record, members, rounds, &mut answer) });
         (Map { record }, Answer(answer))
     }
@@ -59,7 +59,7 @@ impl Map {
     // The map of an image with these limits, or the empty one where the answer is a refusal.
     pub fn read_image(members: u64, rounds: u64, bytes: &[u8]) -> (Map, Answer) {
         let (room, len, mut answer) = (bytes.as_ptr(), bytes.len(), [0; 4]);
-        // om_read_image does so by om_new, before all else
+        // om_read_image does so too, before all else
         let record =
             made(|record| unsafe { declarations::read_image(record, members, rounds, room, len, &mut answer) });
         (Map { record }, Answer(answer))

@@ -66,7 +66,7 @@
 //!
 //! # Cost
 //!
-//! The map is one record of 24,160 bytes in a box. The library is lent its arrays and changes them where they stand: no
+//! The map is one record of 24,160 bytes in a box. The library is lent the record and changes it where it stands: no
 //! call but [`ListOrderedMultimap::try_extend`] copies the map, and none allocates, save for the vectors that iterators
 //! own. Most calls take less time than the crate's (`docs/BENCHMARKS.md`). [`ListOrderedMultimap::new`] takes more, since
 //! it writes the whole record; that then never grows.

@@ -1,59 +1,41 @@
--- What `om_append` makes of the map. Assumes nothing.
-use Prim.Native.Nat.{ℕ, ◌≤◌, ◌<◌}
-use mathlib.Core.Path.{◌≡◌, refl, sym, subst, ◌∙◌}
-use mathlib.Core.Bool.{Bool, true, false}
-use mathlib.Core.List.{List, []}
+-- What `append` makes of the map. Assumes nothing.
+use Prim.Native.Nat.{ℕ, ◌<◌}
+use mathlib.Core.Path.{◌≡◌, refl}
+use mathlib.Core.Bool.{true, false}
 use lib.Dec.{ltb}
-use Rattle.steps.specs.Call.{append, refused, present}
-use Rattle.steps.specs.Coded.{coded}
+use Rattle.steps.specs.Call.{append, present}
 use Rattle.steps.specs.Step.{say}
 use Rattle.steps.specs.Trace.{Does}
-use Rattle.steps.specs.Told.{Told}
-use Rattle.links.specs.Stores.{at}
+use Rattle.std.specs.Prelude.{Result}
+use Rattle.answers.specs.declared.Refusal.{Refusal}
 use Rattle.index.specs.Search.{search as searched}
 use Rattle.index.specs.declared.KeyPlace.{KeyPlace}
 use Rattle.index.specs.declared.Found.TheVariants.{At, Absent}
-use Rattle.multimap.specs.Arrays.{Arrays}
+use Rattle.multimap.specs.declared.ListOrderedMultimap.{ListOrderedMultimap}
 use Rattle.multimap.specs.Changes.{with_round}
 use Rattle.multimap.specs.Map.{limits_of, state_of}
 use Rattle.multimap.specs.WellLinked.{WellLinked, linked}
 use Rattle.multimap.proofs.Records.{Member, found}
 use Rattle.multimap.proofs.States.{Unknown, absent_at}
 use Rattle.multimap.proofs.Adds.{adds}
-use Rattle.multimap.proofs.Posts.{ready_known, posted_known, step_full, step_crowded, step_new, append_full, append_known}
+use Rattle.multimap.proofs.Posts.{ready_known, posted_known, step_full, step_crowded, step_new, append_known}
 use Rattle.adding.specs.Admitted.{Admitted}
-use Rattle.adding.proofs.Admissions.{Entering, admitted}
+use Rattle.adding.proofs.Admissions.{Entering, admitted, outcome_by}
 
--- the poster is one of the sixteen
-module _ (a : Arrays) (g : WellLinked a) (p k v : ℕ) {b : Bool} (is : b ≡ ltb 15 p) (h : b ≡ false) where
-  known : ltb 15 p ≡ false
-  known = sym is ∙ h
-
-  pub told_full : (limits_of a).rounds ≤ at a.rounds 0 → (l : List ℕ) → l ≡ coded (refused 1) → Told linked (append p k v) a a [] [] l
-  told_full f l e =
-      record { outcome = say (refused 1); does = append_full p k v a known g f; out_is = refl; out2_is = refl; ans_is = e }
-
+module _ (a : ListOrderedMultimap) (g : WellLinked a) (p k v : ℕ) (known : ltb 15 p ≡ false) where
   -- a member that is there
-  pub told_known : at a.rounds 0 < (limits_of a).rounds → (i n : ℕ) (y : KeyPlace) → searched a.index a.keys k ≡ At i y n
-      → (r : Arrays) → r ≡ with_round a p y.0 v → (l : List ℕ) → l ≡ coded (present true) → Told linked (append p k v) a r [] [] l
-  told_known room i n y f r is l e =
-      let o : Arrays = with_round a p y.0 v in
-      let m : Member a k y.0 = found a g k i n y f in
-      record {
-        outcome = say (present true);
-        does =
-            subst (Does linked (append p k v) a (say (present true))) (sym is)
-            (append_known p k v a known y.0 o room m
-            (posted_known a k p y.0 v o m (adds a y.0 (ready_known a k y.0 g room m) p v)));
-        out_is = refl;
-        out2_is = refl;
-        ans_is = e;
-      }
+  pub does_known : a.rounds.len < (limits_of a).rounds → (i n : ℕ) (y : KeyPlace) → searched a.index a.keys k ≡ At i y n
+      → (r : ListOrderedMultimap) → r ≡ with_round a p y v → Does linked (append p k v) a (say (present true)) r
+  does_known room i n y f r is =
+      let o : ListOrderedMultimap = with_round a p y v in
+      let m : Member a k y = found a g k i n y f in
+      rw is (append_known p k v a known y o room m (posted_known a k p y v o m (adds a y (ready_known a k y g room m) p v)))
 
   -- one that is not
-  pub told_new : (i n : ℕ) → searched a.index a.keys k ≡ Absent i n
-      → (r : Arrays) (l : List ℕ) → Admitted a p k v i (present false) r l → Told linked (append p k v) a r [] [] l
-  told_new i n f r l d =
+  pub does_new : (i n : ℕ) → searched a.index a.keys k ≡ Absent i n
+      → (r : ListOrderedMultimap) (q : Result (Unit {0}) Refusal) → Admitted a p k v i q r
+      → Does linked (append p k v) a (outcome_by (append p k v) (say (present false)) q) r
+  does_new i n f r q d =
       let u : Unknown a k i = absent_at a g k i n f in
       let e : Entering (append p k v) p k v (say (present false)) (state_of a) = record {
         full = step_full p k v (state_of a) known;

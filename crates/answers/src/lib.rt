@@ -1,121 +1,195 @@
-// The answer of every call, and its four numbers.
+// What the calls of a map answer: a refusal, or an answer of the call's own type; all of these as one type, and by four numbers.
 
 #![tactic(auto)]
 
-ghost use Rattle.std.specs.Prelude.{◌≡◌, get_or};
-ghost use Rattle.steps.specs.Coded.{bit as bit_of, coded, decoded};
-ghost use Rattle.answers.specs.Answers.{answer_of};
+ghost use Rattle.std.specs.Prelude.{◌≡◌};
+ghost use Rattle.steps.specs.Coded.{coded, decoded};
+ghost use Rattle.steps.specs.Call as C;
+ghost use Rattle.answers.specs.Answers.{number_of, answer_of, answered, numbered, done_of, round_of, popped_of, entry_of};
 
-// `Refused` has document 01's number of the refusal.
+// Why a call is refused, numbered from 1 on.
+#[derive(Clone, Copy, PartialEq, Eq, Debug)]
+pub enum Refusal {
+    // As many rounds, or as many members, are held as the map's limit.
+    Full = 1,
+    Crowded = 2,
+    // A slice to be written is shorter than what is to be written to it.
+    Short = 3,
+    // A minimum is below the members held, or the rounds held; or one of the two is above the map's limit.
+    MembersBelow = 4,
+    RoundsBelow = 5,
+    Above = 6,
+    // The marks are not as many as the rounds held; one of them is neither 0 nor 1.
+    MarksCount = 7,
+    MarkValue = 8,
+    // The member is not there, or is.
+    Absent = 9,
+    Present = 10,
+    // Of an image: fewer than 8 bytes; a size above the limits; another length than its sizes say; another number of members.
+    TooShort = 11,
+    TooMany = 12,
+    WrongLength = 13,
+    WrongMembers = 14,
+    // A limit is above the highest; the poster is none of the sixteen.
+    LimitsAbove = 15,
+    NoPoster = 16,
+}
+
+// A round that was taken out with its member, and whether the member left with it.
+#[derive(Clone, Copy)]
+pub struct Popped {
+    pub member: u64,
+    pub round: u64,
+    pub gone: bool,
+}
+
+// A member with so many rounds; or a number that is no member.
+#[derive(Clone, Copy)]
+pub enum Entry {
+    Occupied(usize),
+    Vacant(u64),
+}
+
+// What a call that is not refused answers, of any call.
 #[derive(Clone, Copy)]
 pub enum Answer {
-    Refused(u64),
     Nothing,
     Done,
     Round(u64),
     Count(u64),
     Present(bool),
-    Popped(u64, u64, bool),
+    Popped(Popped),
     Occupied(u64),
     Vacant(u64),
 }
 
-// Writes the four numbers of an answer.
-pub fn tell(numbers: &mut [u64; 4], a: Answer)
-    ensures { numbers.new ≡ coded (answer_of a) }
-{
-    *numbers = [word0(a), word1(a), word2(a), word3(a)];
+// What a call answers, as the answer of any call.
+pub trait IntoAnswer {
+    ghost answer: { Self → C.Answer };
+
+    fn into_answer(self) -> Answer
+        ensures { answer_of result ≡ answer self };
 }
 
-// Reads the answer of four numbers. Numbers of no answer are read as `Nothing`.
-pub fn read(numbers: [u64; 4]) -> Answer
-    ensures { answer_of result ≡ decoded numbers }
+impl IntoAnswer for Answer {
+    ghost answer = { answer_of };
+
+    fn into_answer(self) -> Answer {
+        self
+    }
+}
+
+// Whether the member was, or is, there.
+impl IntoAnswer for bool {
+    ghost answer = { C.present };
+
+    fn into_answer(self) -> Answer {
+        Answer::Present(self)
+    }
+}
+
+impl IntoAnswer for usize {
+    ghost answer = { C.count };
+
+    fn into_answer(self) -> Answer {
+        Answer::Count(self as u64)
+    }
+}
+
+impl IntoAnswer for () {
+    ghost answer = { done_of };
+
+    fn into_answer(self) -> Answer {
+        Answer::Done
+    }
+}
+
+impl IntoAnswer for Option<u64> {
+    ghost answer = { round_of };
+
+    fn into_answer(self) -> Answer {
+        match self {
+            Some(v) => Answer::Round(v),
+            None => Answer::Nothing,
+        }
+    }
+}
+
+impl IntoAnswer for Option<Popped> {
+    ghost answer = { popped_of };
+
+    fn into_answer(self) -> Answer {
+        match self {
+            Some(p) => Answer::Popped(p),
+            None => Answer::Nothing,
+        }
+    }
+}
+
+impl IntoAnswer for Entry {
+    ghost answer = { entry_of };
+
+    fn into_answer(self) -> Answer {
+        match self {
+            Entry::Occupied(n) => Answer::Occupied(n as u64),
+            Entry::Vacant(k) => Answer::Vacant(k),
+        }
+    }
+}
+
+impl Refusal {
+    pub fn number(self) -> u64
+        ensures { result ≡ number_of self }
+    {
+        self as u64
+    }
+}
+
+// Writes the four numbers of what a call answers.
+pub fn tell<A: IntoAnswer>(numbers: &mut [u64; 4], outcome: Result<A, Refusal>)
+    ensures { numbers.new ≡ coded (answered A.answer outcome) }
+{
+    *numbers = match outcome {
+        Ok(a) => numbers_of(a.into_answer()),
+        Err(refusal) => [0, refusal.number(), 0, 0],
+    };
+}
+
+// Reads the answer of four numbers. A refusal is given by its number, since they may hold one that no call gives. Numbers of no answer are read as
+// `Nothing`.
+pub fn read(numbers: [u64; 4]) -> Result<Answer, u64>
+    ensures { numbered result ≡ decoded numbers }
 {
     let n = numbers[1];
     match numbers[0] {
-        0 => Answer::Refused(n),
-        1 => Answer::Nothing,
-        2 => Answer::Done,
-        3 => Answer::Round(n),
-        4 => Answer::Count(n),
-        5 => Answer::Present(n == 1),
-        6 => Answer::Popped(n, numbers[2], numbers[3] == 1),
-        7 => Answer::Occupied(n),
-        8 => Answer::Vacant(n),
-        _ => Answer::Nothing,
+        0 => Err(n),
+        1 => Ok(Answer::Nothing),
+        2 => Ok(Answer::Done),
+        3 => Ok(Answer::Round(n)),
+        4 => Ok(Answer::Count(n)),
+        5 => Ok(Answer::Present(n == 1)),
+        6 => Ok(Answer::Popped(Popped {
+            member: n,
+            round: numbers[2],
+            gone: numbers[3] == 1,
+        })),
+        7 => Ok(Answer::Occupied(n)),
+        8 => Ok(Answer::Vacant(n)),
+        _ => Ok(Answer::Nothing),
     }
 }
 
-fn bit(b: bool) -> u64
-    ensures { result ≡ bit_of b }
+fn numbers_of(answer: Answer) -> [u64; 4]
+    ensures { result ≡ coded (answer_of answer) }
 {
-    if b { 1 } else { 0 }
-}
-
-// Says by a number which answer it is.
-fn word0(a: Answer) -> u64
-    ensures { result ≡ get_or (coded (answer_of a)) 0 0 }
-{
-    match a {
-        Answer::Refused(_) => 0,
-        Answer::Nothing => 1,
-        Answer::Done => 2,
-        Answer::Round(_) => 3,
-        Answer::Count(_) => 4,
-        Answer::Present(_) => 5,
-        Answer::Popped(_, _, _) => 6,
-        Answer::Occupied(_) => 7,
-        Answer::Vacant(_) => 8,
-    }
-}
-
-// Gives its first number.
-fn word1(a: Answer) -> u64
-    ensures { result ≡ get_or (coded (answer_of a)) 1 0 }
-{
-    match a {
-        Answer::Refused(n) => n,
-        Answer::Nothing => 0,
-        Answer::Done => 0,
-        Answer::Round(v) => v,
-        Answer::Count(n) => n,
-        Answer::Present(b) => bit(b),
-        Answer::Popped(k, _, _) => k,
-        Answer::Occupied(n) => n,
-        Answer::Vacant(k) => k,
-    }
-}
-
-// Gives the round that was popped.
-fn word2(a: Answer) -> u64
-    ensures { result ≡ get_or (coded (answer_of a)) 2 0 }
-{
-    match a {
-        Answer::Refused(_) => 0,
-        Answer::Nothing => 0,
-        Answer::Done => 0,
-        Answer::Round(_) => 0,
-        Answer::Count(_) => 0,
-        Answer::Present(_) => 0,
-        Answer::Popped(_, v, _) => v,
-        Answer::Occupied(_) => 0,
-        Answer::Vacant(_) => 0,
-    }
-}
-
-// Says whether its member left.
-fn word3(a: Answer) -> u64
-    ensures { result ≡ get_or (coded (answer_of a)) 3 0 }
-{
-    match a {
-        Answer::Refused(_) => 0,
-        Answer::Nothing => 0,
-        Answer::Done => 0,
-        Answer::Round(_) => 0,
-        Answer::Count(_) => 0,
-        Answer::Present(_) => 0,
-        Answer::Popped(_, _, gone) => bit(gone),
-        Answer::Occupied(_) => 0,
-        Answer::Vacant(_) => 0,
+    match answer {
+        Answer::Nothing => [1, 0, 0, 0],
+        Answer::Done => [2, 0, 0, 0],
+        Answer::Round(v) => [3, v, 0, 0],
+        Answer::Count(n) => [4, n, 0, 0],
+        Answer::Present(b) => [5, b as u64, 0, 0],
+        Answer::Popped(p) => [6, p.member, p.round, p.gone as u64],
+        Answer::Occupied(n) => [7, n, 0, 0],
+        Answer::Vacant(k) => [8, k, 0, 0],
     }
 }

@@ -2,29 +2,34 @@
 
 #![tactic(auto)]
 
-ghost use Rattle.std.specs.Prelude.{◌≡◌};
-ghost use Rattle.answers.specs.Answers.{answer_of};
+ghost use Rattle.std.specs.Prelude.{◌≡◌, get_or};
+ghost use Rattle.answers.specs.Answers.{answered};
+ghost use Rattle.steps.specs.Call as C;
 ghost use Rattle.steps.specs.Step.{write};
+ghost use Rattle.links.specs.Stores.{at_in};
 ghost use Rattle.copying.specs.Slices.{along, writing};
 
-use answers::Answer;
+use answers::Refusal;
+use links::Place;
 
-// Copies n of the values, at the place `first` and on along the links, to the front of `out`. The answer is n; or, where `out` is shorter,
-// refusal 3.
-pub fn copy<'a>(values: &'a [u64], next: &'a [u16], first: u16, n: u16, out: &mut [u64]) -> Answer
-    ensures { write (answer_of result) out.new ≡ writing (along values.now next.now first n) out.old }
+// Copies n of the values, at the place `first` and on along the links, to the front of `out`, and answers n.
+pub fn copy<P: Place>(
+    values: &[u64],
+    next: &[P],
+    first: P,
+    n: u16,
+    out: &mut [u64],
+) -> Result<usize, Refusal>
+    ensures { write (answered C.count result) out.new ≡ writing (along (λ x. get_or values.now (P.number x) 0) (at_in P.number P.of next.now) first n) out.old }
 {
     let end = n as usize;
     if out.len() < end {
-        return Answer::Refused(3);
+        return Err(Refusal::Short);
     }
     let mut x = first;
-    let mut i = 0;
-    while i < end {
-        let value = links::get_wide(values, x);
-        out[i] = value;
-        x = links::get(next, x);
-        i += 1;
+    for slot in &mut out[..end] {
+        *slot = links::get_or(values, x.index(), 0);
+        x = links::after(next, x);
     }
-    Answer::Count(n as u64)
+    Ok(end)
 }

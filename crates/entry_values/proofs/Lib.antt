@@ -1,4 +1,3 @@
-pub mod Between
 pub mod Mixing
 pub mod Laws
 pub mod Records

@@ -3,51 +3,32 @@
 
 #![tactic(auto)]
 
-use std::io;
+use std::{array, io};
+
+const ROUNDS: [u64; 5] = [7, 0, u64::MAX, 12, 9];
 
 fn main(rt: HostRuntime) -> io::Result<()> {
-    for n in 0..896 {
-        let bits = (n % 128) as u8;
-        run_mix(&rt, n / 128, bits)?;
+    for count in 0..=ROUNDS.len() + 1 {
+        for bits in 0..128 {
+            print_mix(&rt, count, bits)?;
+        }
     }
     Ok(())
 }
 
-fn print_call(rt: &impl Print, mark: u8) -> io::Result<()> {
-    if mark == 0 {
-        print!(rt; " f:")
-    } else {
-        print!(rt; " b:")
-    }
-}
-
-fn print_answer(rt: &impl Print, given: bool, round: u64) -> io::Result<()> {
-    if given {
-        print!(rt; "{round}")
-    } else {
-        print!(rt; "none")
-    }
-}
-
-// Runs one mix and prints its line. A bit for each call, the lowest for the first: 0 is `next`, 1 is `next_back`. The calls after the
-// first `given` answered none.
-fn run_mix(rt: &impl Print, count: usize, bits: u8) -> io::Result<()> {
-    let slice: [u64; 5] = [7, 0, 18446744073709551615, 12, 9];
-    let order: [u8; 7] = [
-        bits % 2,
-        bits / 2 % 2,
-        bits / 4 % 2,
-        bits / 8 % 2,
-        bits / 16 % 2,
-        bits / 32 % 2,
-        bits / 64 % 2,
-    ];
-    let mut out = [0u64; 7];
-    let given = entry_values::mix(&slice, count, &order, &mut out);
+// Runs one mix and prints its line. A bit for each call, the lowest for the first: 0 is `next`, 1 is `next_back`.
+fn print_mix(rt: &impl Print, count: usize, bits: u8) -> io::Result<()> {
+    let order: [u8; 7] = array::from_fn(|i| bits >> i & 1);
+    let mut out = [0; 7];
+    let given = entry_values::mix(&ROUNDS, count, &order, &mut out);
     print!(rt; "{count}")?;
-    for i in 0..7 {
-        print_call(rt, order[i])?;
-        print_answer(rt, i < given, out[i])?;
+    let mut rounds = out.iter().take(given);
+    for mark in order {
+        let end = if mark == 0 { 'f' } else { 'b' };
+        match rounds.next() {
+            Some(round) => print!(rt; " {end}:{round}")?,
+            None => print!(rt; " {end}:none")?,
+        }
     }
     println!(rt)
 }

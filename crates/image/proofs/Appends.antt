@@ -1,7 +1,6 @@
--- Pairs appended one after the other to a new map: the turns of `append_all`. Assumes nothing.
-use Prim.Native.Nat.{ℕ, zero, suc, ◌+◌, ◌≤◌, ◌<◌, min}
+-- Pairs appended one after the other to a new map: the turns of `restore`. Assumes nothing.
+use Prim.Native.Nat.{ℕ, zero, suc, ◌+◌, ◌*◌, ◌≤◌, ◌<◌, min}
 use mathlib.Core.Path.{◌≡◌, refl, sym, ap, ◌∙◌, subst}
-use mathlib.Core.Logic.{◌≢◌}
 use mathlib.Core.Bool.{Bool, true, false, cond, not, ◌&&◌}
 use mathlib.Core.List.{List, [], ◌∷◌, ◌++◌, append_assoc}
 use native.Mathlib.Omega.{arith}
@@ -14,15 +13,15 @@ use Rattle.steps.specs.Lists.{any}
 use Rattle.steps.specs.State as St
 use Rattle.steps.specs.State.{State, Limits, Pair, empty, add, full, crowded, max_rounds}
 use Rattle.steps.specs.Marked.{◌∶◌, firsts, start}
-use Rattle.steps.specs.Call.{Answer, Outcome, append, present, refused}
-use Rattle.steps.specs.Coded.{coded}
+use Rattle.steps.specs.Call.{Outcome, append, present, refused}
 use Rattle.steps.specs.Step.{step, checks, act, settle, refusal, say, refusing}
-use Rattle.steps.specs.Told.{Told}
-use Rattle.multimap.specs.Arrays.{Arrays}
-use Rattle.multimap.specs.Map.{at, state_of}
+use Rattle.steps.specs.Trace.{Does}
+use Rattle.multimap.specs.declared.ListOrderedMultimap.{ListOrderedMultimap}
+use Rattle.multimap.specs.Map.{state_of}
 use Rattle.multimap.specs.WellLinked.{WellLinked, linked}
+use Rattle.image.specs.Bytes.{numbers}
 use Rattle.image.specs.Image.{pair_up}
-use Rattle.image.specs.Parts.{Built}
+use Rattle.image.proofs.Numbers.{length_numbers}
 
 -- ---- members and rounds as pairs
 
@@ -89,85 +88,77 @@ appended : (k v : ℕ) (s : State) → full s ≡ false → Appended k v s (step
 unfolding step checks
 appended k v s f = rw f (settled k v s (St.absent k s) (crowded s) refl refl)
 
--- the map that it leaves, and whether the answer is a refusal
-data Left (k v : ℕ) (m r : Arrays) (ans : List ℕ) : Type 0 where
-  added : at ans 0 ≢ 0 → state_of r ≡ add 0 k v (state_of m) → Left k v m r ans
-  stuck : at ans 0 ≡ 0 → St.absent k (state_of m) ≡ true → crowded (state_of m) ≡ true → Left k v m r ans
-
-left : (k v : ℕ) (m r : Arrays) (ans : List ℕ) → full (state_of m) ≡ false → Told linked (append 0 k v) m r [] [] ans → Left k v m r ans
-left k v m r ans f t = go (step (append 0 k v) (state_of m)) (appended k v (state_of m) f) t.does.outcome t.does.state
+-- an append that is not refused adds the pair; one that is has no room for its member
+added : (k v : ℕ) (m r : ListOrderedMultimap) (b : Bool) → full (state_of m) ≡ false → Does linked (append 0 k v) m (say (present b)) r
+    → state_of r ≡ add 0 k v (state_of m)
+added k v m r b f d = go (step (append 0 k v) (state_of m)) (appended k v (state_of m) f) d.outcome d.state
   where
-    first : (a : Answer) → t.outcome.answer ≡ a → at ans 0 ≡ at (coded a) 0
-    first a e = ap (λ (l : List ℕ). at l 0) (t.ans_is ∙ ap coded e)
+    go : (o : Outcome × State) → Appended k v (state_of m) o → say (present b) ≡ o.0 → state_of r ≡ o.1 → state_of r ≡ add 0 k v (state_of m)
+    go o taken e i = i
+    go o (crowd a c) e i = absurd (let z : ◌≡◌ {A = ℕ} 0 1 = cc (ap (λ (o : Outcome). o.answer) e) in omega arith)
 
-    go : (o : Outcome × State) → Appended k v (state_of m) o → t.outcome ≡ o.0 → state_of r ≡ o.1 → Left k v m r ans
-    go o taken e i = added (λ z. omega (arith, first (present (St.present k (state_of m))) (ap (λ (o : Outcome). o.answer) e))) i
-    go o (crowd a c) e i = stuck (first (refused 2) (ap (λ (o : Outcome). o.answer) e)) a c
+stuck : (k v : ℕ) (m r : ListOrderedMultimap) (n : ℕ) → full (state_of m) ≡ false → Does linked (append 0 k v) m (say (refused n)) r
+    → (St.absent k (state_of m) ≡ true) × (crowded (state_of m) ≡ true)
+stuck k v m r n f d = go (step (append 0 k v) (state_of m)) (appended k v (state_of m) f) d.outcome
+  where
+    go : (o : Outcome × State) → Appended k v (state_of m) o → say (refused n) ≡ o.0 → (St.absent k (state_of m) ≡ true) × (crowded (state_of m) ≡ true)
+    go o taken e = absurd (let z : ◌≡◌ {A = ℕ} 0 1 = cc (ap (λ (o : Outcome). o.answer) e) in omega arith)
+    go o (crowd a c) e = (a, c)
 
--- ---- the turns
+-- ---- the turns: of the n pairs that the bytes s say
 
-module _ (l : Limits) (ks vs : List ℕ) where
+module _ (l : Limits) (s : List ℕ) (n : ℕ) where
+  abbrev ks : List ℕ
+  ks = numbers n (drop 8 s)
+
+  abbrev vs : List ℕ
+  vs = numbers n (drop (8 + 8 * n) s)
+
   -- after i pairs
-  pub record Building (i : ℕ) (m : Arrays) : Type 0 where
-    pub some : i ≤ length ks
+  pub record Building (i : ℕ) (m : ListOrderedMultimap) : Type 0 where
     pub linked : WellLinked m
     pub state : state_of m ≡ start l (take i (pair_up ks vs))
 
-  pub building_none : (m : Arrays) → WellLinked m → state_of m ≡ empty l → Building 0 m
-  building_none m g e = record { some = omega arith; linked = g; state = e }
+  same : length ks ≡ length vs
+  same = length_numbers n (drop 8 s) ∙ sym (length_numbers n (drop (8 + 8 * n) s))
 
-  module _ (top : l.rounds ≤ max_rounds) (few : length ks ≤ l.rounds) (same : length ks ≡ length vs) where
-    many : length (pair_up ks vs) ≡ length ks
-    many = length_paired ks vs same
+  many : length (pair_up ks vs) ≡ n
+  many = length_paired ks vs same ∙ length_numbers n (drop 8 s)
 
-    module _ {i : ℕ} {m : Arrays} (b : Building i m) where
-      pub building_all : length ks ≤ i → Built l (pair_up ks vs) true m
-      building_all h = (b.linked, b.state ∙ ap (start l) (take_all i (pair_up ks vs) (omega (arith, many))))
+  module _ {i : ℕ} {m : ListOrderedMultimap} (b : Building i m) where
+    -- the state of all pairs
+    pub building_all : n ≤ i → state_of m ≡ start l (pair_up ks vs)
+    building_all h = b.state ∙ ap (start l) (take_all i (pair_up ks vs) (omega (arith, many)))
 
-      module _ (h : i < length ks) (k v : ℕ) (ek : k ≡ get_or ks i 0) (ev : v ≡ get_or vs i 0) (r : Arrays) (ans : List ℕ)
-          (t : Told linked (append 0 k v) m r [] [] ans) where
-        abbrev ps : List Pair
-        ps = take i (pair_up ks vs)
+    module _ (top : l.rounds ≤ max_rounds) (few : n ≤ l.rounds) (h : i < n) {k v : ℕ} (ek : k ≡ get_or ks i 0) (ev : v ≡ get_or vs i 0) where
+      abbrev ps : List Pair
+      ps = take i (pair_up ks vs)
 
-        so_many : length ps ≡ i
-        so_many = length-take-le i (pair_up ks vs) (omega (arith, many))
+      so_many : length ps ≡ i
+      so_many = length-take-le i (pair_up ks vs) (omega (arith, many))
 
-        one_more : take (suc i) (pair_up ks vs) ≡ ps ++ (k ∶ v ∷ [])
-        one_more = rw (ek, ev) (take_paired ks vs i h same)
+      one_more : take (suc i) (pair_up ks vs) ≡ ps ++ (k ∶ v ∷ [])
+      one_more = rw (ek, ev) (take_paired ks vs i (rw (length_numbers n (drop 8 s)) h) same)
 
-        room : full (state_of m) ≡ false
-        room = ap full b.state ∙ lt-leb l.rounds (length ps) (omega (arith, so_many))
+      room : full (state_of m) ≡ false
+      room = ap full b.state ∙ lt-leb l.rounds (length ps) (omega (arith, so_many))
 
-        after : Left k v m r ans
-        after = left k v m r ans room t
+      pub building_one : {p : Bool} {r : ListOrderedMultimap} → Does linked (append 0 k v) m (say (present p)) r → Building (i + 1) r
+      building_one {p} {r} d =
+          record {
+            linked = d.linked;
+            state =
+                added k v m r p room d ∙ ap (add 0 k v) b.state ∙ sym (start_add l ps k v (omega (arith, so_many))) ∙ ap (start l) (sym one_more)
+                ∙ ap (λ (j : ℕ). start l (take j (pair_up ks vs))) (sym (add-one i));
+          }
 
-        pub building_one : at ans 0 ≢ 0 → Building (i + 1) r
-        building_one n = go after
-          where
-            go : Left k v m r ans → Building (i + 1) r
-            go (added z e) =
-                record {
-                  some = omega arith;
-                  linked = t.does.linked;
-                  state =
-                      e ∙ ap (add 0 k v) b.state ∙ sym (start_add l ps k v (omega (arith, so_many))) ∙ ap (start l) (sym one_more)
-                      ∙ ap (λ (j : ℕ). start l (take j (pair_up ks vs))) (sym (add-one i));
-                }
-            go (stuck z a c) = absurd (n z)
-
-        pub building_stuck : at ans 0 ≡ 0 → l.members < length (firsts [] (pair_up ks vs))
-        building_stuck z = go after
-          where
-            rest : List Pair
-            rest = drop (suc i) (pair_up ks vs)
-
-            whole : ps ++ (k ∶ v ∷ rest) ≡ pair_up ks vs
-            whole =
-                sym (append_assoc ps (k ∶ v ∷ []) rest) ∙ ap (λ (l : List Pair). l ++ rest) (sym one_more)
-                ∙ take-append-drop (suc i) (pair_up ks vs)
-
-            go : Left k v m r ans → l.members < length (firsts [] (pair_up ks vs))
-            go (added n e) = absurd (n z)
-            go (stuck y a c) =
-                subst (λ (qs : List Pair). l.members < length (firsts [] qs)) whole
-                (firsts_many l ps rest k v (ap (St.absent k) (sym b.state) ∙ a) (ap crowded (sym b.state) ∙ c))
+      -- then there are more members than the limit
+      pub building_stuck : {x : ℕ} {r : ListOrderedMultimap} → Does linked (append 0 k v) m (say (refused x)) r → l.members < length (firsts [] (pair_up ks vs))
+      building_stuck {x} {r} d =
+          let rest : List Pair = drop (suc i) (pair_up ks vs) in
+          let whole : ps ++ (k ∶ v ∷ rest) ≡ pair_up ks vs =
+          sym (append_assoc ps (k ∶ v ∷ []) rest) ∙ ap (λ (l : List Pair). l ++ rest) (sym one_more)
+          ∙ take-append-drop (suc i) (pair_up ks vs) in
+          let w = stuck k v m r x room d in
+          subst (λ (qs : List Pair). l.members < length (firsts [] qs)) whole
+          (firsts_many l ps rest k v (ap (St.absent k) (sym b.state) ∙ w.0) (ap crowded (sym b.state) ∙ w.1))

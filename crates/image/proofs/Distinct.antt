@@ -13,7 +13,7 @@ use Rattle.steps.specs.Marked.{firsts}
 use Rattle.steps.proofs.Keeps.{Once, once_add}
 use Rattle.links.specs.Route.{tally, bit}
 use Rattle.links.proofs.Routes.{Split, split_at, tally_same, tally_append}
-use Rattle.multimap.specs.Arrays.{Arrays}
+use Rattle.multimap.specs.declared.ListOrderedMultimap.{ListOrderedMultimap}
 use Rattle.multimap.specs.Map.{pairs, members}
 use Rattle.multimap.specs.WellLinked.{WellLinked}
 use Rattle.multimap.proofs.Represents.{represents}
@@ -53,5 +53,5 @@ times_tally q (x ∷ xs) = go (eqb q x) (times_tally q xs)
 once_length : (ks js : List ℕ) (ps : List Pair) → Once ks ps → Once js ps → length ks ≡ length js
 once_length ks js ps o p = same_length ks js (λ q. sym (times_tally q ks) ∙ o q ∙ sym (p q) ∙ times_tally q js)
 
-pub members_counted : (m : Arrays) → WellLinked m → length (members m) ≡ length (firsts [] (pairs m))
+pub members_counted : (m : ListOrderedMultimap) → WellLinked m → length (members m) ≡ length (firsts [] (pairs m))
 members_counted m g = once_length (members m) (firsts [] (pairs m)) (pairs m) (represents m g).once (firsts_once [] [] (pairs m) (λ k. refl))

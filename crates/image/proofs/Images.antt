@@ -1,22 +1,19 @@
--- What `om_write_image` leaves is what the definition says. Assumes nothing.
-use Prim.Native.Nat.{ℕ, ◌+◌, ◌*◌, ◌≤◌, ◌<◌, min}
+-- What `write_image` leaves is what the definition says. Assumes nothing.
+use Prim.Native.Nat.{ℕ, ◌+◌, ◌*◌, ◌≤◌, ◌<◌}
 use mathlib.Core.Path.{◌≡◌, sym, ap, ◌∙◌}
 use mathlib.Core.List.{List, map}
 use native.Mathlib.Omega.{arith}
 use borrow.Author.Tests.{lt-ltb, le-ltb}
 use lib.ListN.{length, length-map}
-use Rattle.steps.specs.State.{State, max_rounds}
+use Rattle.steps.specs.State.{State}
 use Rattle.steps.specs.Call.{count, refused}
-use Rattle.steps.specs.Coded.{coded}
 use Rattle.steps.specs.Step.{over, write}
-use Rattle.multimap.specs.Arrays.{Arrays}
-use Rattle.multimap.specs.Map as Map
-use Rattle.multimap.specs.Map.{at, state_of}
+use Rattle.multimap.specs.declared.ListOrderedMultimap.{ListOrderedMultimap}
+use Rattle.multimap.specs.Map.{state_of}
 use Rattle.multimap.specs.WellLinked.{WellLinked}
 use Rattle.multimap.proofs.Stores.{pair_keys, pair_values, length_pairs, length_members}
 use Rattle.image.specs.Image.{image_of, write_of}
-use Rattle.image.specs.Answers.{Writes}
-use Rattle.image.specs.Running.{image_along}
+use Rattle.image.specs.Running.{image_in}
 use Rattle.image.proofs.Layouts.{length_layout}
 
 -- an image is 8 + 16 × n long
@@ -34,35 +31,22 @@ written_whole s out h = rw (le-ltb (length out) (length (image_of s)) h)
 
 -- ---- the two answers
 
-module _ (a : Arrays) (g : WellLinked a) (n : ℕ) (rounds : List ℕ) (e : rounds ≡ a.rounds) (n_is : n ≡ min (at rounds 0) max_rounds) where
-  held : n ≡ at a.rounds 0
-  held = omega (arith, g.chained.rounds.some_used, g.chained.rounds.some_fresh, ap (λ (t : List ℕ). at t 0) e)
+module _ (m : ListOrderedMultimap) (g : WellLinked m) where
+  long : length (image_of (state_of m)) ≡ 8 + 16 * m.rounds.len
+  long = omega (arith, length_image (state_of m), length_pairs m)
 
-  long : length (image_of (state_of a)) ≡ 8 + 16 * n
-  long = omega (arith, length_image (state_of a), length_pairs a, held)
-
-  pub write_short : (out ans : List ℕ) → length out < 8 + 16 * n → ans ≡ coded (refused 3) → Writes a out out ans
+  pub write_short : (out : List ℕ) → length out < 8 + 16 * m.rounds.len → write (refused 3) out ≡ write_of (state_of m) out
   unfolding write_of
-  write_short out ans h t =
-      record { answer = refused 3; writes = rw (lt-ltb (length out) (length (image_of (state_of a))) (omega (arith, long))); ans_is = t }
+  write_short out h = rw (lt-ltb (length out) (length (image_of (state_of m))) (omega (arith, long)))
 
-  -- written along the links, out of arrays that are the map's
-  module _ {keys values owners next members : List ℕ} (ek : keys ≡ a.keys) (ev : values ≡ a.values) (eo : owners ≡ a.key_index)
-      (en : next ≡ a.next_value) (em : members ≡ a.members) (m : ℕ) (m_is : m ≡ at members 0) where
-    image : image_along keys values owners next n m ≡ image_of (state_of a)
-    unfolding image_of
-    image =
-        let joined : m ≡ length (Map.members a) = m_is ∙ ap (λ (l : List ℕ). at l 0) em ∙ sym (length_members a) in
-        rw (ek, ev, eo, en, held, pair_keys a, pair_values a, joined, length_pairs a)
+  -- written along the links
+  image : image_in m ≡ image_of (state_of m)
+  unfolding image_of
+  image = rw (pair_keys m, pair_values m, length_members m, length_pairs m)
 
-    pub write_done : (out out' ans : List ℕ) → 8 + 16 * n ≤ length out → out' ≡ over (image_along keys values owners next n m) out
-        → ans ≡ coded (count (8 + 16 * n)) → Writes a out out' ans
-    write_done out out' ans h s f =
-        record {
-          answer = count (8 + 16 * n);
-          writes =
-              ap (write (count (8 + 16 * n))) (s ∙ ap (λ (l : List ℕ). over l out) image)
-              ∙ ap (λ (k : ℕ). write (count (8 + 16 * k)) (over (image_of (state_of a)) out)) (held ∙ sym (length_pairs a))
-              ∙ written_whole (state_of a) out (omega (arith, long));
-          ans_is = f;
-        }
+  pub write_done : (out : List ℕ) {out' : List ℕ} → 8 + 16 * m.rounds.len ≤ length out → out' ≡ over (image_in m) out
+      → write (count (8 + 16 * m.rounds.len)) out' ≡ write_of (state_of m) out
+  write_done out h s =
+      ap (write (count (8 + 16 * m.rounds.len))) (s ∙ ap (λ (l : List ℕ). over l out) image)
+      ∙ ap (λ (k : ℕ). write (count (8 + 16 * k)) (over (image_of (state_of m)) out)) (sym (length_pairs m))
+      ∙ written_whole (state_of m) out (omega (arith, long))

@@ -1,11 +1,12 @@
--- Numbers read from bytes: the laws of `four` and `eight`, and the turns of `read_numbers`. Assumes nothing.
-use Prim.Native.Nat.{ℕ, zero, suc, ◌+◌, ◌*◌, ◌-◌, ◌≤◌, ◌<◌}
+-- Numbers read from bytes. Assumes nothing.
+use Prim.Native.Nat.{ℕ, zero, suc, ◌+◌, ◌*◌, ◌-◌, ◌<◌}
 use mathlib.Core.Path.{◌≡◌, refl, sym, ap, ◌∙◌}
-use mathlib.Core.List.{List, [], ◌∷◌, ◌++◌}
+use mathlib.Core.List.{List}
 use native.Mathlib.Omega.{arith}
-use native.Mathlib.Numerals.{add-one}
-use lib.ListN.{length, get_or, set, take, drop, length-set, length-drop}
-use lib.Seq.{get_or-drop, drop-drop, take-suc-set, take_all}
+use lib.ListN.{length, get_or, take, drop, length-drop}
+use lib.Seq.{get_or-drop, drop-drop, take_all}
+use Rattle.std.specs.Int.{w32, w64, from_le_bytes}
+use Rattle.std.proofs.lemmas.List.{get_or-take}
 use Rattle.image.specs.Bytes.{number, numbers}
 
 number_none : (s : List ℕ) → number 0 s ≡ 0
@@ -47,39 +48,57 @@ module _ (s : List ℕ) where
         number_one 4 (p + 3) ∙ ap (λ (q : ℕ). get_or s (p + 3) 0 + 256 * number 4 (drop q s)) g,
       )
 
--- the part of a slice that begins at p
-pub rest : (s : List ℕ) (p : ℕ) → take (length s - p) (drop p s) ≡ drop p s
-rest s p = take_all (length s - p) (drop p s) (omega (arith, length-drop p s))
+-- a number as the library reads it from its bytes
+module _ (s : List ℕ) where
+  pub four_read : from_le_bytes w32 (take 4 s) ≡ number 4 s
+  four_read =
+      omega (
+        arith,
+        four_is s 0,
+        get_or-take 4 s 0 0 (omega arith),
+        get_or-take 4 s 1 0 (omega arith),
+        get_or-take 4 s 2 0 (omega arith),
+        get_or-take 4 s 3 0 (omega arith),
+      )
 
--- one number more
-pub numbers_more : (n : ℕ) (s : List ℕ) → numbers (suc n) s ≡ numbers n s ++ number 8 (drop (8 * n) s) ∷ []
-numbers_more zero s = refl
-numbers_more (suc n) s =
-    let e : 8 + 8 * n ≡ 8 * suc n = omega arith in
-    ap (λ (l : List ℕ). number 8 s ∷ l)
-    (numbers_more n (drop 8 s) ∙ ap (λ (l : List ℕ). numbers n (drop 8 s) ++ number 8 l ∷ []) (drop-drop (8 * n) 8 s ∙ ap (λ (q : ℕ). drop q s) e))
+  pub eight_read : from_le_bytes w64 (take 8 s) ≡ number 8 s
+  eight_read =
+      omega (
+        arith,
+        eight_is s 0,
+        four_is s 0,
+        four_is s 4,
+        get_or-take 8 s 0 0 (omega arith),
+        get_or-take 8 s 1 0 (omega arith),
+        get_or-take 8 s 2 0 (omega arith),
+        get_or-take 8 s 3 0 (omega arith),
+        get_or-take 8 s 4 0 (omega arith),
+        get_or-take 8 s 5 0 (omega arith),
+        get_or-take 8 s 6 0 (omega arith),
+        get_or-take 8 s 7 0 (omega arith),
+      )
+
+-- the size that stands at p
+pub size_read : (s : List ℕ) (p : ℕ) {b : List ℕ} → b ≡ take 4 (drop p s) → {x : ℕ} → x ≡ from_le_bytes w32 b → x ≡ number 4 (drop p s)
+size_read s p e f = f ∙ ap (from_le_bytes w32) e ∙ four_read (drop p s)
+
+-- ---- numbers of eight bytes
 
 pub length_numbers : (n : ℕ) (s : List ℕ) → length (numbers n s) ≡ n
 length_numbers zero s = refl
 length_numbers (suc n) s = ap suc (length_numbers n (drop 8 s))
 
--- after i numbers
-pub record Read (s : List ℕ) (n : ℕ) (out : List ℕ) (i : ℕ) : Type 0 where
-  pub some : i ≤ n
-  pub size : length out ≡ 1024
-  pub front : take i out ≡ numbers i s
+numbers_at : (n i : ℕ) (s : List ℕ) → i < n → get_or (numbers n s) i 0 ≡ number 8 (drop (8 * i) s)
+numbers_at zero i s h = absurd (omega arith)
+numbers_at (suc n) zero s h = refl
+numbers_at (suc n) (suc i) s h =
+    let e : 8 + 8 * i ≡ 8 * suc i = omega arith in
+    numbers_at n i (drop 8 s) (omega arith) ∙ ap (number 8) (drop-drop (8 * i) 8 s ∙ ap (λ (q : ℕ). drop q s) e)
 
-pub read_none : (s : List ℕ) (n : ℕ) (out : List ℕ) → length out ≡ 1024 → Read s n out 0
-read_none s n out e = record { some = omega arith; size = e; front = refl }
-
-pub read_one : {s : List ℕ} {n : ℕ} {out : List ℕ} {i : ℕ} → Read s n out i → n ≤ 1024 → i < n → (x : ℕ)
-    → x ≡ number 8 (drop (8 * i) s) → Read s n (set out i x) (i + 1)
-read_one {s} {n} {out} {i} t few more x is =
-    record {
-      some = omega arith;
-      size = length-set out i x ∙ t.size;
-      front = rw (add-one i) (take-suc-set out i x (omega (arith, t.size)) ∙ rw (t.front, is) (sym (numbers_more i s)));
-    }
-
-pub read_all : {s : List ℕ} {n : ℕ} {out : List ℕ} {i : ℕ} → Read s n out i → n ≤ i → take n out ≡ numbers n s
-read_all {s} {n} {out} {i} t e = let f : i ≡ n = omega (arith, t.some) in rw f at t.front
+-- the i-th of the n numbers from p on, as it is read from the part of a slice that begins at p
+pub nth_read : (s : List ℕ) (p n i : ℕ) → i < n → {b : List ℕ} → b ≡ take 8 (drop (8 * i) (take (length s - p) (drop p s)))
+    → {x : ℕ} → x ≡ from_le_bytes w64 b → x ≡ get_or (numbers n (drop p s)) i 0
+nth_read s p n i h e f =
+    let rest : take (length s - p) (drop p s) ≡ drop p s = take_all (length s - p) (drop p s) (omega (arith, length-drop p s)) in
+    f ∙ ap (from_le_bytes w64) (e ∙ ap (λ (l : List ℕ). take 8 (drop (8 * i) l)) rest)
+    ∙ eight_read (drop (8 * i) (drop p s)) ∙ sym (numbers_at n i (drop p s) h)

@@ -1,4 +1,4 @@
--- What `om_read_image` gives is what the definition says. Assumes nothing.
+-- What `read_image` gives is what the definition says. Assumes nothing.
 use Prim.Native.Nat.{ℕ, ◌+◌, ◌*◌, ◌≤◌, ◌<◌}
 use mathlib.Core.Path.{◌≡◌, refl, sym, ap, ◌∙◌, subst}
 use mathlib.Core.Logic.{◌≢◌, ⊎_elim}
@@ -11,23 +11,19 @@ use lib.ListN.{length, drop}
 use Rattle.steps.specs.State.{State, Limits, limit, Pair, empty}
 use Rattle.steps.specs.Marked.{firsts, start}
 use Rattle.steps.specs.Call.{Answer, refused, done}
-use Rattle.steps.specs.Coded.{coded}
 use Rattle.steps.specs.Step.{too_high, make_of}
 use Rattle.steps.specs.Proper.{Allowed}
 use Rattle.steps.proofs.Limits.{allowed, not_too_high, made_refused, made_done, made_with}
 use Rattle.links.proofs.Routes.{same_or_not}
-use Rattle.multimap.specs.Arrays.{Arrays}
-use Rattle.multimap.specs.Map.{at, limits_of, state_of}
-use Rattle.multimap.specs.Making.{Made}
+use Rattle.multimap.specs.declared.ListOrderedMultimap.{ListOrderedMultimap}
+use Rattle.multimap.specs.Map.{limits_of, state_of}
+use Rattle.multimap.specs.Making.{Makes}
 use Rattle.multimap.specs.WellLinked.{WellLinked}
 use Rattle.multimap.proofs.Stores.{length_members}
 use Rattle.image.specs.Bytes.{numbers}
 use Rattle.image.specs.Image.{rounds_said, members_said, pair_up, pairs_in, reading, read_of}
-use Rattle.image.specs.Answers.{Reads, Restores}
-use Rattle.image.specs.Parts.{RightSizes, Said, Restored, Built}
-use Rattle.image.specs.declared.Sizes.{Sizes}
-use Rattle.image.specs.declared.Sizes.TheVariants.{Right, Refused}
-use Rattle.image.proofs.Numbers.{length_numbers}
+use Rattle.image.specs.Answers.{Reads}
+use Rattle.image.specs.Parts.{RightSizes, Restored}
 
 -- ---- members and rounds as pairs
 
@@ -43,7 +39,7 @@ values_of (x ∷ xs) [] e = absurd (omega arith)
 values_of (x ∷ xs) (y ∷ ys) e = ap (λ (l : List ℕ). y ∷ l) (values_of xs ys (omega arith))
 
 -- what is read is what the definition gives
-reads_as : (l : Limits) (s : List ℕ) (m : Arrays) (a : Answer) (t : State) → WellLinked m → state_of m ≡ t → read_of l s ≡ (a, t) → Reads l s a m
+reads_as : (l : Limits) (s : List ℕ) (m : ListOrderedMultimap) (a : Answer) (t : State) → WellLinked m → state_of m ≡ t → read_of l s ≡ (a, t) → Reads l s a m
 reads_as l s m a t g i e =
     record { answer = sym (ap (λ (r : Answer × State). r.0) e); state = i ∙ sym (ap (λ (r : Answer × State). r.1) e); linked = g }
 
@@ -97,117 +93,93 @@ module _ (l : Limits) (s : List ℕ) where
 
   -- ---- an image whose sizes are right
 
-  module _ (ok : Allowed l) (n m : ℕ) (z : RightSizes l s n m) (xs ys : List ℕ) (ex : xs ≡ numbers n (drop 8 s))
-      (ey : ys ≡ numbers n (drop (8 + 8 * n) s)) where
+  module _ (ok : Allowed l) {n m : ℕ} (z : RightSizes l s n m) where
     small : too_many ≡ false
     small = rw (le-ltb l.rounds (rounds_said s) (omega (arith, z))) (le-ltb l.members (members_said s) (omega (arith, z)))
 
     right : length s ≡ 8 + 16 * rounds_said s
     right = rw z.rounds at z.long
 
-    pub many_members : length xs ≡ n
-    many_members = ap length ex ∙ length_numbers n (drop 8 s)
+    abbrev read : List Pair
+    read = pair_up (numbers n (drop 8 s)) (numbers n (drop (8 + 8 * n) s))
 
-    pub many_rounds : length ys ≡ n
-    many_rounds = ap length ey ∙ length_numbers n (drop (8 + 8 * n) s)
-
-    the_pairs : pair_up xs ys ≡ pairs_in s
+    the_pairs : read ≡ pairs_in s
     unfolding pairs_in
-    the_pairs = rw (ex, ey, z.rounds)
+    the_pairs = rw z.rounds
 
-    module _ (all : Bool) (r : Arrays) (b : Built l (pair_up xs ys) all r) where
-      -- more members than the limit are not m
-      pub restored_many : all ≡ false → Restored l s all r
-      restored_many e =
-          let more : l.members < length (firsts [] (pair_up xs ys)) = subst (λ (a : Bool). Built l (pair_up xs ys) a r) e b in
-          subst (λ (a : Bool). Restored l s a r) (sym e)
-          (read_members ok z.enough small right (λ u. omega (arith, z, ap (λ (l : List Pair). length (firsts [] l)) the_pairs)))
+    -- more members than the limit are not m
+    pub restored_many : l.members < length (firsts [] (pair_up (numbers n (drop 8 s)) (numbers n (drop (8 + 8 * n) s)))) → read_of l s ≡ (refused 14, empty l)
+    restored_many more =
+        read_members ok z.enough small right (λ u. omega (arith, z, ap (λ (l : List Pair). length (firsts [] l)) the_pairs))
 
-      module _ (e : all ≡ true) (joined : ℕ) (j : joined ≡ at r.members 0) where
-        built : Built l (pair_up xs ys) true r
-        built = subst (λ (a : Bool). Built l (pair_up xs ys) a r) e b
+    module _ (r : ListOrderedMultimap) (g : WellLinked r) (i : state_of r ≡ start l (pair_up (numbers n (drop 8 s)) (numbers n (drop (8 + 8 * n) s)))) where
+      state : state_of r ≡ start l (pairs_in s)
+      state = i ∙ ap (start l) the_pairs
 
-        state : state_of r ≡ start l (pairs_in s)
-        state = built.1 ∙ ap (start l) the_pairs
+      counted : r.members.len ≡ length (firsts [] (pairs_in s))
+      counted = sym (length_members r) ∙ ap (λ (t : State). length t.members) state
 
-        counted : joined ≡ length (firsts [] (pairs_in s))
-        counted = j ∙ sym (length_members r) ∙ ap (λ (t : State). length t.members) state
-
-        -- m members or not
-        pub restored_by : Restored l s (eqb joined m) r
-        restored_by =
-            ⊎_elim (λ (u : joined ≡ m). rw (eq-eqb joined m u)
-            (reads_as l s r done (start l (pairs_in s)) built.0 state (read_whole ok z.enough small right (sym z.members ∙ sym u ∙ counted))))
-            (λ (u : joined ≢ m). rw (ne_eqb joined m u) (read_members ok z.enough small right (λ v. u (counted ∙ sym v ∙ sym z.members))))
-            (same_or_not joined m)
+      -- m members or not
+      pub restored_by : Restored l s (eqb r.members.len m) r
+      restored_by =
+          ⊎_elim (λ (u : r.members.len ≡ m). rw (eq-eqb r.members.len m u)
+          (reads_as l s r done (start l (pairs_in s)) g state (read_whole ok z.enough small right (sym z.members ∙ sym u ∙ counted))))
+          (λ (u : r.members.len ≢ m). rw (ne_eqb r.members.len m u) (read_members ok z.enough small right (λ v. u (counted ∙ sym v ∙ sym z.members))))
+          (same_or_not r.members.len m)
 
 -- ---- the map that is made first
 
-module _ {l : Limits} {m : Arrays} {ans : List ℕ} (k : Made l m ans) where
-  -- the answer's first number, as the limits are too high or not
-  first : (r : Answer × State) → make_of l ≡ r → at ans 0 ≡ at (coded r.0) 0
-  first r e = ap (λ (t : List ℕ). at t 0) (k.ans_is ∙ ap coded (k.makes.answer ∙ ap (λ (t : Answer × State). t.0) e))
-
+module _ {l : Limits} {m : ListOrderedMultimap} {a : Answer} (k : Makes l a m) where
   -- a making that is not refused has limits that a map may have, and gives the empty map with them
-  pub made_allowed : at ans 0 ≢ 0 → Allowed l
-  made_allowed n = go (too_high l) refl
+  pub made_allowed : a ≡ done → Allowed l
+  made_allowed e = go (too_high l) refl
     where
       go : (b : Bool) → too_high l ≡ b → Allowed l
-      go true e = absurd (n (first (refused 15, empty (limit 0 0)) (made_refused l e)))
-      go false e = allowed l e
+      go true h =
+          let f : done ≡ refused 15 = sym e ∙ k.answer ∙ ap (λ (t : Answer × State). t.0) (made_refused l h) in
+          absurd (let z : ◌≡◌ {A = ℕ} 0 1 = cc f in omega arith)
+      go false h = allowed l h
 
-  pub made_empty : Allowed l → state_of m ≡ empty l
-  made_empty ok = k.makes.state ∙ ap (λ (t : Answer × State). t.1) (made_with l ok)
+  made_empty : Allowed l → state_of m ≡ empty l
+  made_empty ok = k.state ∙ ap (λ (t : Answer × State). t.1) (made_with l ok)
+
+  limits : Allowed l → limits_of m ≡ l
+  limits ok = ap (λ (t : State). t.limits) (made_empty ok)
 
   -- by 15, as the making was
-  pub restores_too_high : (s : List ℕ) → at ans 0 ≡ 0 → Restores l s m ans
-  restores_too_high s z = go (too_high l) refl
+  pub reads_too_high : (s : List ℕ) {n : ℕ} → a ≡ refused n → Reads l s a m
+  reads_too_high s {n} e = go (too_high l) refl
     where
-      go : (b : Bool) → too_high l ≡ b → Restores l s m ans
-      go true e =
-          let made = made_refused l e in
+      go : (b : Bool) → too_high l ≡ b → Reads l s a m
+      go true h =
+          let made = made_refused l h in
+          let read = read_too_high l s h in
           record {
-            answer = refused 15;
-            reads =
-                reads_as l s m (refused 15) (empty (limit 0 0)) k.makes.linked (k.makes.state ∙ ap (λ (t : Answer × State). t.1) made)
-                (read_too_high l s e);
-            ans_is = k.ans_is ∙ ap coded (k.makes.answer ∙ ap (λ (t : Answer × State). t.0) made);
+            answer = k.answer ∙ ap (λ (t : Answer × State). t.0) (made ∙ sym read);
+            state = k.state ∙ ap (λ (t : Answer × State). t.1) (made ∙ sym read);
+            linked = k.linked;
           }
-      go false e = absurd (omega (arith, first (done, empty l) (made_done l e)))
+      go false h =
+          let f : done ≡ refused n = sym (k.answer ∙ ap (λ (t : Answer × State). t.0) (made_done l h)) ∙ e in
+          absurd (let z : ◌≡◌ {A = ℕ} 0 1 = cc f in omega arith)
 
--- ---- the answers, where the limits may be had
+  -- ---- where the limits may be had
 
--- a refusal leaves a map that was made
-refuses : {l : Limits} {m : Arrays} {ans₀ : List ℕ} → Made l m ans₀ → Allowed l → (s : List ℕ) (n : ℕ) → read_of l s ≡ (refused n, empty l)
-    → (ans : List ℕ) → ans ≡ coded (refused n) → Restores l s m ans
-refuses {l} {m} k ok s n r ans e =
-    record { answer = refused n; reads = reads_as l s m (refused n) (empty l) k.makes.linked (made_empty k ok) r; ans_is = e }
+  module _ (ok : Allowed l) (s : List ℕ) where
+    -- the map that is made is ready for an image whose sizes are right
+    pub ready : {i j : ℕ} → RightSizes l s i j → WellLinked m × (state_of m ≡ empty (limits_of m)) × RightSizes (limits_of m) s i j
+    ready {i} {j} z = (k.linked, made_empty ok ∙ ap empty (sym (limits ok)), subst (λ (x : Limits). RightSizes x s i j) (sym (limits ok)) z)
 
-module _ {l : Limits} {α : Arrays} {ans₀ : List ℕ} (k : Made l α ans₀) (ok : Allowed l) (s : List ℕ) where
-  limits : limits_of α ≡ l
-  limits = ap (λ (t : State). t.limits) (made_empty k ok)
+    -- by the sizes
+    pub reads_refused : {n : ℕ} → read_of l s ≡ (refused n, empty l) → Reads l s (refused n) m
+    reads_refused {n} = reads_as l s m (refused n) (empty l) k.linked (made_empty ok)
 
-  -- the map that is made is ready for an image whose sizes are right
-  pub ready : (z : Sizes) (n m : ℕ) → z ≡ Right n m → Said l s z
-      → WellLinked α × (state_of α ≡ empty (limits_of α)) × RightSizes (limits_of α) s n m
-  ready z n m i h =
-      (k.makes.linked, made_empty k ok ∙ ap empty (sym limits), subst (λ (j : Limits). RightSizes j s n m) (sym limits) (subst (Said l s) i h))
+    pub reads_done : {r : ListOrderedMultimap} → Reads (limits_of m) s done r → Reads l s done r
+    reads_done {r} = subst (λ (x : Limits). Reads x s done r) (limits ok)
 
-  pub restores_done : (m : Arrays) (ans : List ℕ) (b : Bool) → b ≡ true → Restored (limits_of α) s b m → ans ≡ coded done → Restores l s m ans
-  restores_done m ans b t r e =
-      record {
-        answer = done;
-        reads = subst (λ (j : Limits). Reads j s done m) limits (subst (λ (a : Bool). Restored (limits_of α) s a m) t r);
-        ans_is = e;
-      }
-
-  -- by the sizes
-  pub restores_sizes : (z : Sizes) (n : ℕ) → z ≡ Refused n → Said l s z → (ans : List ℕ) → ans ≡ coded (refused n) → Restores l s α ans
-  restores_sizes z n i h = refuses k ok s n (subst (Said l s) i h ok)
-
-  -- by the number of members: the map is made once more
-  pub restores_members : (b : Bool) (o : Arrays) → b ≡ false → Restored (limits_of α) s b o
-      → {m : Arrays} {ans₁ : List ℕ} → Made l m ans₁ → (ans : List ℕ) → ans ≡ coded (refused 14) → Restores l s m ans
-  restores_members b o f r again =
-      refuses again ok s 14
-      (subst (λ (j : Limits). read_of j s ≡ (refused 14, empty j)) limits (subst (λ (a : Bool). Restored (limits_of α) s a o) f r))
+    -- by the number of members: the map is made once more
+    pub reads_members : read_of (limits_of m) s ≡ (refused 14, empty (limits_of m)) → {r : ListOrderedMultimap} → WellLinked r → state_of r ≡ (make_of l).1
+        → Reads l s (refused 14) r
+    reads_members e {r} g i =
+        reads_as l s r (refused 14) (empty l) g (i ∙ ap (λ (t : Answer × State). t.1) (made_with l ok))
+        (subst (λ (x : Limits). read_of x s ≡ (refused 14, empty x)) (limits ok) e)

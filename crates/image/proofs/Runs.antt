@@ -179,9 +179,6 @@ module _ (keys values owners next : List ℕ) (n m : ℕ) where
     first_long : length a ≡ length out
     first_long = ap length ea ∙ length-sets out 0 (bytes 4 n)
 
-    pub sizes_long : length b ≡ length out
-    sizes_long = ap length eb ∙ length-sets a 4 (bytes 4 m) ∙ first_long
-
     pub sizes_stored : 8 + 16 * n ≤ length out → take 8 b ≡ take 8 image
     sizes_stored room =
         let four : take 4 a ≡ take 4 image =

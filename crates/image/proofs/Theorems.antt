@@ -23,7 +23,7 @@ use Rattle.steps.specs.Proper.{Allowed, New}
 use Rattle.steps.proofs.Limits.{allowed, made_refused, made_done, makes_new}
 use Rattle.multimap.specs.Map.{at, pairs, members, limits_of, state_of}
 use Rattle.multimap.specs.WellLinked.{WellLinked}
-use Rattle.multimap.specs.Arrays.{Arrays}
+use Rattle.multimap.specs.declared.ListOrderedMultimap.{ListOrderedMultimap}
 use Rattle.multimap.proofs.Stores.{length_pairs, length_members}
 use Rattle.image.specs.Bytes.{array, layout, number, numbers, AllBytes, Words}
 use Rattle.image.specs.Image.{image_of}
@@ -103,12 +103,12 @@ written_read l ok s w few few_members counted =
     ∙ ap (λ (ps : List Pair). (done, start l ps)) p
 
 -- of a map: the same P, K in order of first appearance in P, and in T all of its rounds are the poster 0's
-pub map_read_back : (l : Limits) → Allowed l → (m : Arrays) → WellLinked m → Words (pairs m) → length (pairs m) ≤ l.rounds
+pub map_read_back : (l : Limits) → Allowed l → (m : ListOrderedMultimap) → WellLinked m → Words (pairs m) → length (pairs m) ≤ l.rounds
     → length (members m) ≤ l.members → read_of l (image_of (state_of m)) ≡ (done, start l (pairs m))
 map_read_back l ok m g w few few_members = written_read l ok (state_of m) w few few_members (members_counted m g)
 
 -- the map's own limits hold it
-pub map_read_own : (m : Arrays) → WellLinked m → Words (pairs m) → read_of (limits_of m) (image_of (state_of m)) ≡ (done, start (limits_of m) (pairs m))
+pub map_read_own : (m : ListOrderedMultimap) → WellLinked m → Words (pairs m) → read_of (limits_of m) (image_of (state_of m)) ≡ (done, start (limits_of m) (pairs m))
 map_read_own m g w =
     map_read_back (limits_of m) g.limited.allowed m g w (omega (arith, length_pairs m, g.limited.rounds))
     (omega (arith, length_members m, g.limited.members))
@@ -200,7 +200,7 @@ accepted_exactly l s = (accepts l s, λ a. ap (λ (r : Answer × State). r.0) (a
 pub accepted_pairs : (l : Limits) (s : List ℕ) → (read_of l s).0 ≡ done → (read_of l s).1 ≡ start l (pairs_in s)
 accepted_pairs l s e = ap (λ (r : Answer × State). r.1) (accepted_read l s (accepts l s e))
 
--- all of its rounds are the poster 0's, whose counter is the number of pairs; every other counter is 0 (document 02, No. 2)
+-- all of its rounds are the poster 0's, whose counter is the number of pairs; every other counter is 0
 pub restored_by_0 : (l : Limits) (s : List ℕ) → (read_of l s).0 ≡ done → (read_of l s).1.taken ≡ Marked.restored (length (read_of l s).1.pairs)
 restored_by_0 l s e = rw (accepted_pairs l s e) refl
 

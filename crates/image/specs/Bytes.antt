@@ -1,4 +1,4 @@
--- Numbers as bytes, lowest first (document 01, module 7).
+-- Numbers as bytes, lowest first.
 use Rattle.std.specs.Prelude.{ℕ, zero, suc, ◌+◌, ◌*◌, ◌^◌, ◌<◌, List, [], ◌∷◌, ◌++◌, get_or, drop}
 use Rattle.fnv.specs.Fnv.{bytes}
 use Rattle.steps.specs.State.{Pair}

@@ -1,4 +1,4 @@
--- The image of a map (document 01, module 7): what is written, and which images are read as which state.
+-- The image of a map: what is written, and which images are read as which state.
 use Rattle.std.specs.Prelude.{ℕ, ◌+◌, ◌*◌, ◌≤◌, ◌≡◌, not, ◌||◌, List, [], ◌∷◌, ◌++◌, map, eqb, ltb, length, drop}
 use Rattle.std.proofs.Math.Option.{Option, some}
 use Rattle.std.proofs.Math.Option as Opt
@@ -46,7 +46,7 @@ pair_up (k ∷ ks) (v ∷ vs) = k ∶ v ∷ pair_up ks vs
 unfoldable pub pairs_in : List ℕ → List Pair
 pairs_in s = pair_up (numbers (rounds_said s) (drop 8 s)) (numbers (rounds_said s) (drop (8 + 8 * rounds_said s) s))
 
--- the rows of the table for reading into the limits l, in order: first the row for making a map with them (document 02, No. 1)
+-- the rows of the table for reading into the limits l, in order: first the row for making a map with them
 unfoldable pub reading : Limits → List ℕ → List Check
 reading l s =
     making l
@@ -57,7 +57,7 @@ reading l s =
     ∷ [])
 
 -- a refused reading gives the new map with these limits; any other the pairs, the members in order of first appearance, and T with all of the
--- pairs the poster 0's (document 02, No. 2)
+-- pairs the poster 0's
 abbrev pub restored : Option ℕ → Limits → List ℕ → Answer × State
 restored (some n) l s = (refused n, (make_of l).1)
 restored Opt.none l s = (done, start l (pairs_in s))

@@ -1,8 +1,9 @@
--- What holds before each pair of an image is written (document 02, No. 3).
+-- What holds before each pair of an image is written.
 use Rattle.std.specs.Prelude.{ℕ, ◌+◌, ◌*◌, ◌-◌, ◌≤◌, ◌≡◌, List, map, length, take, drop}
 use Rattle.std.proofs.Math.Seq.{slice}
 use Rattle.links.specs.Route.{walk}
 use Rattle.links.specs.Stores.{at}
+use Rattle.multimap.specs.declared.ListOrderedMultimap.{ListOrderedMultimap}
 use Rattle.image.specs.Bytes.{layout}
 
 -- n places of rounds, from the first on along the links
@@ -12,6 +13,10 @@ places_along next n = walk (at next) (at next 1024) n
 -- the image of these n rounds and their members, of which there are m
 abbrev pub image_along : (keys values owners next : List ℕ) → (n m : ℕ) → List ℕ
 image_along keys values owners next n m = layout n m (map (λ x. at keys (at owners x)) (places_along next n)) (map (at values) (places_along next n))
+
+-- the image of a map, along its links
+abbrev pub image_in : ListOrderedMultimap → List ℕ
+image_in m = image_along m.keys m.values m.key_index m.next_value m.rounds.len m.members.len
 
 -- before the i-th of n pairs, from 0, is written to `out`: from x on the links lead along the pairs that are left; where its member and its
 -- round go; that what stands before them, the sizes with the first array and then the second array, is as in the finished image; and that what

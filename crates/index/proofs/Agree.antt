@@ -6,10 +6,8 @@ use mathlib.Core.List.{List, Memᴰ}
 use mathlib.Core.Logic.{◌⊎◌, inl, inr, ⊎_elim}
 use Prim.Native.Nat.{ℕ, zero, suc, ◌+◌, ◌%◌, ◌<◌, ◌≤◌}
 use native.Mathlib.Omega.{arith}
-use borrow.Author.Tests.{eq-eqb, ne_eqb}
-use lib.Dec.{T, eqb}
+use lib.Dec.{T}
 use lib.ListN.{length, get_or}
-use Rattle.index.specs.declared.KeyPlace.{KeyPlace}
 use Rattle.index.specs.declared.Found.{Found}
 use Rattle.index.specs.declared.Found.TheVariants.{At, Absent}
 use Rattle.index.specs.Table.{Holds, dist, home}
@@ -19,9 +17,6 @@ use Rattle.index.proofs.Cycle.{dist_inj, dist_walk}
 use Rattle.index.proofs.Pigeon.{less_or_not, same_or_not}
 use Rattle.index.proofs.Search.{home_lt, look_none, look_empty, look_hit, look_on}
 use Rattle.index.proofs.Finds.{says_at, says_absent}
-
-pub decides_eq : (a b : ℕ) → Decides (eqb a b) (a ≡ b)
-decides_eq a b = ⊎_elim (λ e. rw (eq-eqb a b e) e) (λ ne. rw (ne_eqb a b ne) ne) (same_or_not a b)
 
 pub true_false : {b : Bool} → b ≡ true → b ≡ false → ⊥
 true_false {b} e f = let z : true ≡ false = sym e ∙ f in absurd (subst (λ (c : Bool). T c) z tt)
@@ -37,10 +32,10 @@ pub if_false : (b : Bool) {P : Type 0} → b ≡ false → Decides b P → P →
 if_false b {P} e d = subst (λ (c : Bool). Decides c P) e d
 
 -- What an answer At says of any table: the place is not empty and holds the member, and no place before it is empty.
-pub record Reached (t keys : List ℕ) (m p : ℕ) (k : KeyPlace) : Type 0 where
+pub record Reached (t keys : List ℕ) (m p k : ℕ) : Type 0 where
   pub inside : p < 512
   pub full : get_or t p 0 < 256
-  pub key : get_or t p 0 ≡ k.0
+  pub key : get_or t p 0 ≡ k
   pub member : get_or keys (get_or t p 0) 0 ≡ m
   pub before : (q : ℕ) → q < 512 → dist (home m) q < dist (home m) p → get_or t q 0 < 256
 
@@ -76,16 +71,16 @@ module _ (t keys : List ℕ) (m : ℕ) where
   unfolding searched
   any = go 512 (home m) 0 refl (let l = home_lt m in omega arith) (λ q lq d. absurd (omega arith))
 
-  pub reached : (p n : ℕ) (k : KeyPlace) → searched t keys m ≡ At p k n → Reached t keys m p k
+  pub reached : (p n k : ℕ) → searched t keys m ≡ At p k n → Reached t keys m p k
   reached p n k e = subst (IfAt t keys m) e any
 
 -- a search that found something, with what it found
-found_in : (r : Found) (p : ℕ) → FoundIn p r → (k : KeyPlace) × (n : ℕ) × (r ≡ At p k n)
+found_in : (r : Found) (p : ℕ) → FoundIn p r → (k : ℕ) × (n : ℕ) × (r ≡ At p k n)
 unfolding FoundIn
 found_in (At q k n) p e = (k, n, ap (λ (x : ℕ). At x k n) e)
 found_in (Absent q n) p e = absurd e
 
-pub found_key : (r : Found) (l : ℕ) → FoundKey l r → (p : ℕ) × (k : KeyPlace) × (n : ℕ) × (r ≡ At p k n) × (k.0 ≡ l)
+pub found_key : (r : Found) (l : ℕ) → FoundKey l r → (p : ℕ) × (k : ℕ) × (n : ℕ) × (r ≡ At p k n) × (k ≡ l)
 unfolding FoundKey
 found_key (At q k n) l e = (q, k, n, refl, e)
 found_key (Absent q n) l e = absurd e
@@ -94,7 +89,7 @@ module _ (t keys : List ℕ) (used : List Bool) (ks : List ℕ) (u : Lists used 
   -- each place and each member place is right: so is the whole
   module _ (size : length t ≡ 512) (ps : (p : ℕ) → p < 512 → PlaceOk t keys used p) (qs : (k : ℕ) → k < 256 → KeyOk t keys used k) where
     -- what stands in a place that is not empty is found there
-    own : (p : ℕ) → p < 512 → get_or t p 0 < 256 → (k : KeyPlace) × (n : ℕ) × (searched t keys (get_or keys (get_or t p 0) 0) ≡ At p k n)
+    own : (p : ℕ) → p < 512 → get_or t p 0 < 256 → (k : ℕ) × (n : ℕ) × (searched t keys (get_or keys (get_or t p 0) 0) ≡ At p k n)
     unfolding PlaceOk
     own p lp l =
         ⊎_elim (λ (e : get_or t p 0 ≡ 65535). absurd (omega arith)) (λ w. found_in (searched t keys (get_or keys (get_or t p 0) 0)) p w.2) (ps p lp)
@@ -156,8 +151,8 @@ module _ (t keys : List ℕ) (used : List Bool) (ks : List ℕ) (u : Lists used 
     unfolding FoundKey FoundIn
     finds k m (At q l n) e =
         let w = says_at t keys ks (get_or keys k 0) h q n l e in
-        let same : l.0 ≡ k = h.distinct l.0 k w.2 m w.3 in
-        (same, λ p lp ep. h.once q p w.0 lp (rw w.1 (h.place l.0 w.2)) (w.1 ∙ same ∙ sym ep))
+        let same : l ≡ k = h.distinct l k w.2 m w.3 in
+        (same, λ p lp ep. h.once q p w.0 lp (rw w.1 (h.place l w.2)) (w.1 ∙ same ∙ sym ep))
     finds k m (Absent q n) e = absurd ((says_absent t keys ks (get_or keys k 0) h q n e).1 k m refl)
 
     pub place_right : (p : ℕ) → p < 512 → PlaceOk t keys used p

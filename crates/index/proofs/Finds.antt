@@ -6,7 +6,6 @@ use mathlib.Core.Logic.{⊎_elim}
 use Prim.Native.Nat.{ℕ, zero, suc, ◌+◌, ◌%◌, ◌<◌, ◌≤◌}
 use native.Mathlib.Omega.{arith}
 use lib.ListN.{get_or}
-use Rattle.index.specs.declared.KeyPlace.{KeyPlace}
 use Rattle.index.specs.declared.Found.{Found}
 use Rattle.index.specs.declared.Found.TheVariants.{At, Absent}
 use Rattle.index.specs.Table.{Holds, Vacant, dist, home}
@@ -50,7 +49,7 @@ module _ (t keys ks : List ℕ) (m : ℕ) (h : Holds t keys ks) where
       (λ (d : n + 1 ≤ dist (home m) e.0). dist_next (home m) p e.0 (home_lt m) lp e.1 (omega arith) ∙ ap (λ (x : ℕ). x + 1) en)
       (less_or_not (dist (home m) e.0) (n + 1))
 
-  hit : (p n : ℕ) → p < 512 → dist (home m) p ≡ n → get_or t p 0 < 256 → get_or keys (get_or t p 0) 0 ≡ m → Says t keys ks m (At p (record { 0 = get_or t p 0 }) (n + 1))
+  hit : (p n : ℕ) → p < 512 → dist (home m) p ≡ n → get_or t p 0 < 256 → get_or keys (get_or t p 0) 0 ≡ m → Says t keys ks m (At p (get_or t p 0) (n + 1))
   unfolding Says
   hit p n lp en l e = (lp, refl, held h p lp l, e, ap (λ (x : ℕ). x + 1) (sym en))
 
@@ -82,8 +81,8 @@ module _ (t keys ks : List ℕ) (m : ℕ) (h : Holds t keys ks) where
   says = go 512 (home m) 0 refl (home_lt m) (dist_self (home m) (home_lt m)) (λ q lq d. absurd (omega arith))
 
   -- the same, for a caller that knows which answer it is
-  pub says_at : (p n : ℕ) (k : KeyPlace) → searched t keys m ≡ At p k n
-      → (p < 512) × (get_or t p 0 ≡ k.0) × Memᴰ k.0 ks × (get_or keys k.0 0 ≡ m) × (n ≡ dist (home m) p + 1)
+  pub says_at : (p n k : ℕ) → searched t keys m ≡ At p k n
+      → (p < 512) × (get_or t p 0 ≡ k) × Memᴰ k ks × (get_or keys k 0 ≡ m) × (n ≡ dist (home m) p + 1)
   unfolding Says
   says_at p n k e = subst (Says t keys ks m) e says
 
@@ -110,6 +109,6 @@ module _ (t keys : List ℕ) (m : ℕ) where
   unfolding searched
   ended = ends 512 (home m) 0 (home_lt m)
 
-  pub inside_at : (p n : ℕ) (k : KeyPlace) → searched t keys m ≡ At p k n → p < 512
+  pub inside_at : (p n k : ℕ) → searched t keys m ≡ At p k n → p < 512
   unfolding place_of
   inside_at p n k e = subst (λ (r : Found). place_of r < 512) e ended

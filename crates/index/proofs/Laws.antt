@@ -8,7 +8,6 @@ use mathlib.Core.List.{List, Memᴰ}
 use Prim.Native.Nat.{ℕ, ◌+◌, ◌%◌, ◌<◌}
 use lib.ListN.{get_or}
 use Rattle.fnv.specs.Fnv.{hash_of}
-use Rattle.index.specs.declared.KeyPlace.{KeyPlace}
 use Rattle.index.specs.declared.Found.{Found}
 use Rattle.index.specs.declared.Found.TheVariants.{At, Absent}
 use Rattle.index.specs.Table.{Holds, dist, home}
@@ -28,22 +27,21 @@ module _ (t keys ks : List ℕ) (h : Holds t keys ks) where
   found_exactly m = go (searched t keys m) refl
     where
       go : (r : Found) → searched t keys m ≡ r → Decides (is_found r) ((k : ℕ) × Memᴰ k ks × (get_or keys k 0 ≡ m))
-      go (At p k n) e = let w = says_at t keys ks m h p n k e in (k.0, w.2, w.3)
+      go (At p k n) e = let w = says_at t keys ks m h p n k e in (k, w.2, w.3)
       go (Absent p n) e = λ w. (says_absent t keys ks m h p n e).1 w.0 w.1 w.2
 
   -- a member that is present is found under its member place, in the one place that holds it
   pub found_there : (k p : ℕ) → Memᴰ k ks → p < 512 → get_or t p 0 ≡ k
-      → searched t keys (get_or keys k 0) ≡ At p (record { 0 = k }) (dist (home (get_or keys k 0)) p + 1)
+      → searched t keys (get_or keys k 0) ≡ At p k (dist (home (get_or keys k 0)) p + 1)
   found_there k p i lp ep = go (searched t keys (get_or keys k 0)) refl
     where
-      go : (r : Found) → searched t keys (get_or keys k 0) ≡ r → r ≡ At p (record { 0 = k }) (dist (home (get_or keys k 0)) p + 1)
+      go : (r : Found) → searched t keys (get_or keys k 0) ≡ r → r ≡ At p k (dist (home (get_or keys k 0)) p + 1)
       go (At q l n) e =
           let w = says_at t keys ks (get_or keys k 0) h q n l e in
-          let el : l.0 ≡ k = h.distinct l.0 k w.2 i w.3 in
-          let eq : q ≡ p = h.once q p w.0 lp (rw w.1 (h.place l.0 w.2)) (w.1 ∙ el ∙ sym ep) in
+          let el : l ≡ k = h.distinct l k w.2 i w.3 in
+          let eq : q ≡ p = h.once q p w.0 lp (rw w.1 (h.place l w.2)) (w.1 ∙ el ∙ sym ep) in
           let en : n ≡ dist (home (get_or keys k 0)) p + 1 = w.4 ∙ ap (λ (x : ℕ). dist (home (get_or keys k 0)) x + 1) eq in
-          let ek : ◌≡◌ {A = KeyPlace} l (record { 0 = k }) = ap (λ (x : ℕ). record { 0 = x }) el in
-          cc (ek, eq, en)
+          cc (el, eq, en)
       go (Absent q n) e = absurd ((says_absent t keys ks (get_or keys k 0) h q n e).1 k i refl)
 
   -- the number of places looked at is one more than the steps from the start to the last

@@ -17,7 +17,7 @@ FoundIn p (Absent q n) = ⊥
 
 -- the search found the member place l
 unfoldable pub FoundKey : ℕ → Found → Type 0
-FoundKey l (At q k n) = k.0 ≡ l
+FoundKey l (At q k n) = k ≡ l
 FoundKey l (Absent q n) = ⊥
 
 -- the place p is empty, or holds a member place in use whose member is found there

@@ -15,11 +15,11 @@ dist a b = (b + (512 - a)) % 512
 unfoldable pub home : ℕ → ℕ
 home m = hash_of m % 512
 
--- The index t holds exactly the member places of the list ks, of members whose numbers stand in keys. This is document 01's "the index holds
--- exactly ..: each stands in one of its places only, the search finds it there, and no other number stands in any". `has` and `once` are
--- "each stands in one of its places only"; `reach` and `distinct` are "the search finds it there", since the search can stop before a
--- member's place only at an empty place or at an equal number; `only` is "no other number stands in any". `size`, `few` and `place` say
--- that t has 512 places and ks at most 256 member places. That the search finds each there is proved as `found_there` (proofs/Laws.antt).
+-- The index t holds exactly the member places of the list ks, of members whose numbers stand in keys: each stands in one of its places only,
+-- the search finds it there, and no other number stands in any. `has` and `once` are "each stands in one of its places only"; `reach` and
+-- `distinct` are "the search finds it there", since the search can stop before a member's place only at an empty place or at an equal
+-- number; `only` is "no other number stands in any". `size`, `few` and `place` say that t has 512 places and ks at most 256 member places.
+-- That the search finds each there is proved as `found_there` (proofs/Laws.antt).
 pub record Holds (t keys ks : List ℕ) : Type 0 where
   pub size : length t ≡ 512
   pub few : length ks ≤ 256

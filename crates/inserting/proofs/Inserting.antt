@@ -1,20 +1,19 @@
--- What `om_insert` makes of the map. Assumes nothing.
+-- What `insert` makes of the map. Assumes nothing.
 use Prim.Native.Nat.{ℕ, ◌+◌}
-use mathlib.Core.Path.{◌≡◌, refl, sym, ap, ◌∙◌, subst}
+use mathlib.Core.Path.{◌≡◌, refl, ap, ◌∙◌}
 use mathlib.Core.Bool.{false}
-use mathlib.Core.List.{List, []}
 use lib.Dec.{ltb}
-use Rattle.steps.specs.Call.{Outcome, insert, none, round}
-use Rattle.steps.specs.Coded.{coded}
+use Rattle.steps.specs.Call.{insert, none, round}
 use Rattle.steps.specs.Step.{say}
 use Rattle.steps.specs.Trace.{Does}
-use Rattle.steps.specs.Told.{Told}
+use Rattle.std.specs.Prelude.{Result}
+use Rattle.answers.specs.declared.Refusal.{Refusal}
 use Rattle.links.specs.Stores.{at}
 use Rattle.index.specs.Search.{search as searched}
 use Rattle.index.specs.declared.KeyPlace.{KeyPlace}
 use Rattle.index.specs.declared.Found.TheVariants.{At, Absent}
-use Rattle.multimap.specs.Arrays.{Arrays}
-use Rattle.multimap.specs.Changes.{base_of, with_round}
+use Rattle.multimap.specs.declared.ListOrderedMultimap.{ListOrderedMultimap}
+use Rattle.multimap.specs.Changes.{base_of}
 use Rattle.multimap.specs.Map.{state_of}
 use Rattle.multimap.specs.WellLinked.{WellLinked, linked}
 use Rattle.multimap.specs.Adding.{Ready}
@@ -27,20 +26,16 @@ use Rattle.multimap.proofs.Emptying.{place_of}
 use Rattle.multimap.proofs.Inserts.{step_full, step_crowded, step_new, insert_known}
 use Rattle.adding.specs.Admitted.{Admitted}
 use Rattle.inserting.specs.Records.{without_record, with_only}
-use Rattle.adding.proofs.Admissions.{Entering, admitted}
+use Rattle.adding.proofs.Admissions.{Entering, admitted, outcome_by}
 use Rattle.inserting.proofs.Emptying.{all_struck}
 
--- the two parts of `replace`
-pub only_one : (a : Arrays) (poster key v : ℕ) {b r : Arrays} → b ≡ without_record a key → r ≡ with_round b poster key v → r ≡ with_only a poster key v
-only_one a poster key v b r = r ∙ ap (λ (o : Arrays). with_round o poster key v) b
-
 -- the poster is one of the sixteen
-module _ (a : Arrays) (g : WellLinked a) (p k v : ℕ) (known : ltb 15 p ≡ false) where
+module _ (a : ListOrderedMultimap) (g : WellLinked a) (p k v : ℕ) (known : ltb 15 p ≡ false) where
   -- the map with v as the only round of the member in the place x is what the step of `insert` leaves
   pub replaced : (x : ℕ) → Member a k x
       → Does linked (insert p k v) a (say (round (at a.values (at a.next_index (1024 + x))))) (with_only a p x v)
   replaced x m =
-      let o : Arrays = without_record a x in
+      let o : ListOrderedMultimap = without_record a x in
       let d : Emptied a x o = all_struck a x (place_of a g k x m) in
       let e : Ready o x = record {
         sized = d.sized;
@@ -55,24 +50,19 @@ module _ (a : Arrays) (g : WellLinked a) (p k v : ℕ) (known : ltb 15 p ≡ fal
       insert_known p k v a known g x m o d (with_only a p x v) (adds o x e p v)
 
   -- a member that is there
-  pub told_known : (i n : ℕ) (y : KeyPlace) → searched a.index a.keys k ≡ At i y n
-      → {h w : ℕ} → h ≡ at a.next_index (base_of y.0) → w ≡ at a.values h
-      → (r : Arrays) → r ≡ with_only a p y.0 v → (l : List ℕ) → l ≡ coded (round w) → Told linked (insert p k v) a r [] [] l
-  told_known i n y f h w r j l e =
-      let m : Member a k y.0 = found a g k i n y f in
-      let o : Outcome = say (round (at a.values (at a.next_index (1024 + y.0)))) in
-      record {
-        outcome = o;
-        does = subst (Does linked (insert p k v) a o) (sym j) (replaced y.0 m);
-        out_is = refl;
-        out2_is = refl;
-        ans_is = e ∙ rw (w, h, base_is y.0 m.inside);
-      }
+  pub does_known : (i n : ℕ) (y : KeyPlace) → searched a.index a.keys k ≡ At i y n
+      → {h u : ℕ} → h ≡ at a.next_index (base_of y) → u ≡ at a.values h
+      → (r : ListOrderedMultimap) → r ≡ with_only a p y v → Does linked (insert p k v) a (say (round u)) r
+  does_known i n y f {u = u} h w r is =
+      let m : Member a k y = found a g k i n y f in
+      let first : u ≡ at a.values (at a.next_index (1024 + y)) = w ∙ ap (at a.values) (h ∙ ap (at a.next_index) (base_is y m.inside)) in
+      rw (is, first) (replaced y m)
 
   -- one that is not
-  pub told_new : (i n : ℕ) → searched a.index a.keys k ≡ Absent i n
-      → (r : Arrays) (l : List ℕ) → Admitted a p k v i none r l → Told linked (insert p k v) a r [] [] l
-  told_new i n f r l d =
+  pub does_new : (i n : ℕ) → searched a.index a.keys k ≡ Absent i n
+      → (r : ListOrderedMultimap) (q : Result (Unit {0}) Refusal) → Admitted a p k v i q r
+      → Does linked (insert p k v) a (outcome_by (insert p k v) (say none) q) r
+  does_new i n f r q d =
       let u : Unknown a k i = absent_at a g k i n f in
       let e : Entering (insert p k v) p k v (say none) (state_of a) = record {
         full = λ h. step_full p k v (state_of a) known u.nobody.absent h;

@@ -1,3 +1,4 @@
 -- Laws that belong to no one function.
 pub mod Emptying
 pub mod Inserting
+pub mod Strange

@@ -1,23 +1,23 @@
--- What `om_insert_all` makes of the map and of the slice. Assumes nothing.
-use Prim.Native.Nat.{ℕ, ◌≤◌, ◌<◌}
+-- What `insert_all` makes of the map and of the slice. Assumes nothing.
+use Prim.Native.Nat.{ℕ}
 use mathlib.Core.Path.{◌≡◌, refl, sym, ap, ◌∙◌}
-use mathlib.Core.Bool.{true, false}
-use mathlib.Core.List.{List, [], map}
-use borrow.Author.Tests.{lt-ltb, le-ltb}
+use mathlib.Core.Bool.{Bool, true, false, cond}
+use mathlib.Core.List.{List, map}
 use lib.Dec.{ltb}
 use lib.ListN.{length}
 use Rattle.steps.specs.State as St
 use Rattle.steps.specs.State.{State, rounds, replace}
-use Rattle.steps.specs.Call.{Answer, Outcome, refused, count, insert_all}
-use Rattle.steps.specs.Coded.{coded}
+use Rattle.steps.specs.Call.{Outcome, refused, count, insert_all}
 use Rattle.steps.specs.Step.{step, checks, act, short, write, over}
-use Rattle.steps.specs.Told.{Told}
+use Rattle.steps.specs.Trace.{Does}
 use Rattle.steps.proofs.Doing.{does_refuse, does_change}
 use Rattle.links.specs.Stores.{at}
+use Rattle.std.specs.Prelude.{Result}
+use Rattle.answers.specs.declared.Refusal.{Refusal}
 use Rattle.index.specs.Search.{search as searched}
 use Rattle.index.specs.declared.KeyPlace.{KeyPlace}
 use Rattle.index.specs.declared.Found.TheVariants.{At, Absent}
-use Rattle.multimap.specs.Arrays.{Arrays}
+use Rattle.multimap.specs.declared.ListOrderedMultimap.{ListOrderedMultimap}
 use Rattle.multimap.specs.Changes.{base_of}
 use Rattle.multimap.specs.Map.{pairs, state_of}
 use Rattle.multimap.specs.WellLinked.{WellLinked, linked}
@@ -28,7 +28,7 @@ use Rattle.multimap.proofs.Inserts.{step_known}
 use Rattle.adding.specs.Admitted.{Admitted}
 use Rattle.inserting.specs.Records.{with_only}
 use Rattle.copying.specs.Slices.{along, writing}
-use Rattle.adding.proofs.Admissions.{Entering, admitted}
+use Rattle.adding.proofs.Admissions.{Entering, admitted, outcome_by}
 use Rattle.inserting.proofs.Inserting.{replaced}
 
 -- ---- the step, case by case
@@ -58,58 +58,57 @@ module _ (p k v : ℕ) (out : List ℕ) (s : State) (known : ltb 15 p ≡ false)
   unfolding step checks act
   step_all_new a f c = rw (known, a, f, c, a)
 
+-- ---- the copy
+
+-- what is refused was short, and what is counted was not
+refused_short : (b : Bool) (n m : ℕ) (last out l : List ℕ) → write (refused n) last ≡ cond b (write (refused 3) out) (write (count m) l) → b ≡ true
+refused_short true n m last out l e = refl
+refused_short false n m last out l e = let d : refused n ≡ count m = ap (λ (o : Outcome). o.answer) e in cc
+
+counted_long : (b : Bool) (n m : ℕ) (last out l : List ℕ) → write (count n) last ≡ cond b (write (refused 3) out) (write (count m) l) → b ≡ false
+counted_long false n m last out l e = refl
+counted_long true n m last out l e = let d : count n ≡ refused 3 = ap (λ (o : Outcome). o.answer) e in cc
+
 -- ---- the map
 
-module _ (a : Arrays) (g : WellLinked a) (p k v : ℕ) (known : ltb 15 p ≡ false) (out : List ℕ) where
-  -- a member that is there
-  module _ (i n : ℕ) (y : KeyPlace) (f : searched a.index a.keys k ≡ At i y n) (t : ℕ) (size : t ≡ at a.lengths y.0) where
-    m : Member a k y.0
+module _ (a : ListOrderedMultimap) (g : WellLinked a) (p k v : ℕ) (known : ltb 15 p ≡ false) (out : List ℕ) where
+  -- a member that is there: its record has been copied, or was too long
+  module _ (i n : ℕ) (y : KeyPlace) (f : searched a.index a.keys k ≡ At i y n) where
+    m : Member a k y
     m = found a g k i n y f
 
     abbrev rs : List ℕ
     rs = rounds k (pairs a)
 
-    many : length rs ≡ t
-    many = m.many ∙ sym size
+    module _ {h t : ℕ} (head : h ≡ at a.next_index (base_of y)) (size : t ≡ at a.lengths y) where
+      its : along (at a.values) (at a.next_index) h t ≡ rs
+      its = rw (head, base_is y m.inside, size) (ap (map (at a.values)) m.walked ∙ sym m.rounds)
 
-    pub told_short : length out < t → (l : List ℕ) → l ≡ coded (refused 3) → Told linked (insert_all p k v out) a a out [] l
-    told_short h l e =
-        record {
-          outcome = write (refused 3) out;
-          does =
-              does_refuse linked (insert_all p k v out) a 3 g
-              (step_all_short p k v out (state_of a) known m.present (lt-ltb (length out) (length rs) (rw many h)));
-          out_is = refl;
-          out2_is = refl;
-          ans_is = e;
-        }
+      pub does_short : (u : ℕ) (last : List ℕ) → write (refused u) last ≡ writing (along (at a.values) (at a.next_index) h t) out
+          → Does linked (insert_all p k v out) a (write (refused u) last) a
+      does_short u last w =
+          let e : write (refused u) last ≡ writing rs out = w ∙ ap (λ (q : List ℕ). writing q out) its in
+          let s : short out rs ≡ true = refused_short _ _ _ _ _ _ e in
+          let o : write (refused u) last ≡ write (refused 3) out = e ∙ rw s in
+          rw o (does_refuse linked (insert_all p k v out) a 3 g (step_all_short p k v out (state_of a) known m.present s))
 
-    -- its record has been copied
-    pub told_known : t ≤ length out → (h : ℕ) → h ≡ at a.next_index (base_of y.0)
-        → (x : Answer) (last : List ℕ) → write x last ≡ writing (along a.values a.next_index h t) out
-        → (r : Arrays) → r ≡ with_only a p y.0 v → (l : List ℕ) → l ≡ coded x → Told linked (insert_all p k v out) a r last [] l
-    told_known fits h j x last wrote r w l e =
-        let d = replaced a g p k v known y.0 m in
-        let its : along a.values a.next_index h t ≡ rs =
-        rw (j, base_is y.0 m.inside, size) (ap (map (at a.values)) m.walked ∙ sym m.rounds) in
-        let s : short out rs ≡ false = le-ltb (length out) (length rs) (rw many fits) in
-        let o : write x last ≡ write (count (length rs)) (over rs out) = wrote ∙ ap (λ (q : List ℕ). writing q out) its ∙ rw s in
-        record {
-          outcome = write x last;
-          does =
-              rw (w, o)
-              (does_change linked (insert_all p k v out) a (write (count (length rs)) (over rs out)) (replace p k v (state_of a)) (with_only a p y.0 v)
-              refl refl (step_all_known p k v out (state_of a) known m.present s)
-              (d.state ∙ ap (λ (q : Outcome × State). q.1) (step_known p k v (state_of a) known m.present)) d.linked);
-          out_is = refl;
-          out2_is = refl;
-          ans_is = e;
-        }
+      pub does_known : (u : ℕ) (last : List ℕ) → write (count u) last ≡ writing (along (at a.values) (at a.next_index) h t) out
+          → (r : ListOrderedMultimap) → r ≡ with_only a p y v → Does linked (insert_all p k v out) a (write (count u) last) r
+      does_known u last w r is =
+          let d = replaced a g p k v known y m in
+          let e : write (count u) last ≡ writing rs out = w ∙ ap (λ (q : List ℕ). writing q out) its in
+          let s : short out rs ≡ false = counted_long _ _ _ _ _ _ e in
+          let o : write (count u) last ≡ write (count (length rs)) (over rs out) = e ∙ rw s in
+          rw (is, o)
+          (does_change linked (insert_all p k v out) a (write (count (length rs)) (over rs out)) (replace p k v (state_of a)) (with_only a p y v)
+          refl refl (step_all_known p k v out (state_of a) known m.present s)
+          (d.state ∙ ap (λ (q : Outcome × State). q.1) (step_known p k v (state_of a) known m.present)) d.linked)
 
   -- one that is not
-  pub told_new : (i n : ℕ) → searched a.index a.keys k ≡ Absent i n
-      → (r : Arrays) (l : List ℕ) → Admitted a p k v i (count 0) r l → Told linked (insert_all p k v out) a r out [] l
-  told_new i n f r l d =
+  pub does_new : (i n : ℕ) → searched a.index a.keys k ≡ Absent i n
+      → (r : ListOrderedMultimap) (q : Result (Unit {0}) Refusal) → Admitted a p k v i q r
+      → Does linked (insert_all p k v out) a (outcome_by (insert_all p k v out) (write (count 0) out) q) r
+  does_new i n f r q d =
       let u : Unknown a k i = absent_at a g k i n f in
       let e : Entering (insert_all p k v out) p k v (write (count 0) out) (state_of a) = record {
         full = λ h. step_all_full p k v out (state_of a) known u.nobody.absent h;

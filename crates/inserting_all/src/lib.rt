@@ -1,61 +1,42 @@
 // The call that puts a round in the place of a member's record and hands the record out, in place. It has a crate of its own: where each crate is
-// compiled by itself, each has then one caller of `replace` and `admit`, and the compiler puts them into it and into `om_insert`.
+// compiled by itself, each has then one caller of `replace` and `admit`, and the compiler puts them into it and into `insert`.
 
 #![tactic(auto)]
 
-ghost use Rattle.std.specs.Prelude.{[]};
+ghost use Rattle.answers.specs.Answers.{answered};
 ghost use Rattle.steps.specs.Call as C;
-ghost use Rattle.steps.specs.Told.{Told};
-ghost use Rattle.multimap.specs.Arrays.{Arrays};
-ghost use Rattle.multimap.specs.Lent.{given, lent, left};
+ghost use Rattle.steps.specs.Step.{write};
+ghost use Rattle.steps.specs.Trace.{Does};
 ghost use Rattle.multimap.specs.WellLinked.{WellLinked, linked};
 
-use answers::Answer;
+use answers::Refusal;
 use index::Found;
-use multimap::{
-    Counts, Index, IndexLinks, KeyIndex, KeyLinks, Keys, Lengths, Taken, ValueLinks, Values,
-};
+use multimap::ListOrderedMultimap;
 
 // Puts the round v in the place of the member's record, which is written, in order, to the front of `out`; a new member joins at the back.
 // The answer is how long the record was.
-#[rattlefmt::skip]
-pub fn om_insert_all(
-    keys: &mut Keys, lengths: &mut Lengths, next_key: &mut KeyLinks, previous_key: &mut KeyLinks,
-    values: &mut Values, key_index: &mut KeyIndex, next_value: &mut ValueLinks, previous_value: &mut ValueLinks,
-    next_index: &mut IndexLinks, previous_index: &mut IndexLinks, index: &mut Index,
-    members: &mut Counts, rounds: &mut Counts, taken: &mut Taken,
-    poster: u64, k: u64, v: u64, out: &mut [u64], answer: &mut [u64; 4],
-)
-    requires { WellLinked (lent keys lengths next_key previous_key values key_index next_value previous_value next_index previous_index index members rounds taken) }
-    ensures { let g : Arrays = given keys lengths next_key previous_key values key_index next_value previous_value next_index previous_index index members rounds taken in Told linked (C.insert_all poster k v out.old) g (left keys lengths next_key previous_key values key_index next_value previous_value next_index previous_index index members rounds taken) out.new [] answer.new }
+pub fn insert_all(
+    map: &mut ListOrderedMultimap,
+    poster: u64,
+    k: u64,
+    v: u64,
+    out: &mut [u64],
+) -> Result<usize, Refusal>
+    requires { WellLinked map.old }
+    ensures { Does linked (C.insert_all poster k v out.old) map.old (write (answered C.count result) out.new) map.new }
 {
-    if multimap::no_poster(poster) {
-        answers::tell(answer, Answer::Refused(16));
-        return;
-    }
-    let found = index::find(index, keys, k);
-    match found {
+    adding::check_poster(poster)?;
+    match index::find(&map.index, &map.keys, k) {
         Found::At(_, key, _) => {
-            let n = multimap::size(lengths, key);
-            if out.len() < n as usize {
-                answers::tell(answer, Answer::Refused(3));
-                return;
-            }
-            let head = multimap::head(next_index, key);
-            let count = copying::copy(values, next_index, head.0, n, out);
-            inserting::replace(
-                keys, lengths, next_key, previous_key, values, key_index, next_value, previous_value,
-                next_index, previous_index, index, members, rounds, taken, poster, key, v,
-            );
-            answers::tell(answer, count);
-            return;
+            let head = map.head(key);
+            let size = map.size(key);
+            let n = copying::copy(&map.values, &map.next_index, head, size, out)?;
+            inserting::replace(map, poster, key, v);
+            Ok(n)
         }
         Found::Absent(at, _) => {
-            adding::admit(
-                keys, lengths, next_key, previous_key, values, key_index, next_value, previous_value,
-                next_index, previous_index, index, members, rounds, taken, poster, k, v, at, Answer::Count(0), answer,
-            );
-            return;
+            adding::admit(map, poster, k, v, at)?;
+            Ok(0)
         }
     }
 }

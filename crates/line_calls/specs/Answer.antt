@@ -1,4 +1,4 @@
--- What a line asks, answered: its text, and the state after it (document 01, module 8).
+-- What a line asks, answered: its text, and the state after it.
 use Rattle.std.specs.Prelude.{ℕ, Bool, true, cond, List, map, leb, length, replicate}
 use Rattle.steps.specs.State.{State}
 use Rattle.steps.specs.Call.{Outcome, Lent}

@@ -2,18 +2,18 @@
 use Rattle.std.specs.Prelude.{ℕ, ◌≡◌, true, List}
 use Rattle.multimap.specs.Map.{state_of}
 use Rattle.multimap.specs.WellLinked.{WellLinked}
-use Rattle.multimap.specs.Arrays.{Arrays}
+use Rattle.multimap.specs.declared.ListOrderedMultimap.{ListOrderedMultimap}
 use Rattle.parsing.specs.Line.{Line}
 use Rattle.printing.specs.Said.{Prints}
 use Rattle.line_calls.specs.Answer.{answer_of, idle}
 
 -- the text of the line l on the map m, of n bytes, and the map m' after it
-pub record Replied (l : Line) (m : Arrays) (was out : List ℕ) (m' : Arrays) (n : ℕ) : Type 0 where
+pub record Replied (l : Line) (m : ListOrderedMultimap) (was out : List ℕ) (m' : ListOrderedMultimap) (n : ℕ) : Type 0 where
   pub prints : Prints was (answer_of l (state_of m)).0 out n
   pub state : state_of m' ≡ (answer_of l (state_of m)).1
   pub linked : WellLinked m'
   pub same : idle l (state_of m) ≡ true → m' ≡ m
 
--- the same of a line that only reads, for every map that has the arrays which it reads
-abbrev pub Shows : Line → List ℕ → List ℕ → ℕ → (Arrays → Type 0) → Type 0
-Shows l was out n Has = (m : Arrays) → Has m → WellLinked m → Replied l m was out m n
+-- the same of a line that only reads
+abbrev pub Shows : Line → ListOrderedMultimap → List ℕ → List ℕ → ℕ → Type 0
+Shows l m was out n = WellLinked m → Replied l m was out m n

@@ -9,7 +9,7 @@ use Rattle.steps.specs.State.{State}
 use Rattle.steps.specs.Step.{over}
 use Rattle.multimap.specs.Map.{state_of}
 use Rattle.multimap.specs.WellLinked.{WellLinked}
-use Rattle.multimap.specs.Arrays.{Arrays}
+use Rattle.multimap.specs.declared.ListOrderedMultimap.{ListOrderedMultimap}
 use Rattle.parsing.specs.Line.{Line, line_of}
 use Rattle.parsing.proofs.Splits.{line_cut}
 use Rattle.printing.specs.Said.{Roomy}
@@ -51,12 +51,12 @@ unfolding after
 after_one l s = refl
 
 -- nothing is answered
-pub outputs_none : (m : Arrays) (was : List ℕ) → WellLinked m → Outputs [] m was was m 0
+pub outputs_none : (m : ListOrderedMultimap) (was : List ℕ) → WellLinked m → Outputs [] m was was m 0
 unfolding output_of after
 outputs_none m was g = record { bytes = refl; count = refl; room = omega arith; state = refl; linked = g; same = λ e. refl }
 
 -- a line is answered, by its front
-pub outputs_one : {l : List ℕ} {m : Arrays} {was out : List ℕ} {m' : Arrays} {n : ℕ} (line : List ℕ) → front l ≡ front line → Roomy was → Answered l m was out m' n
+pub outputs_one : {l : List ℕ} {m : ListOrderedMultimap} {was out : List ℕ} {m' : ListOrderedMultimap} {n : ℕ} (line : List ℕ) → front l ≡ front line → Roomy was → Answered l m was out m' n
     → Outputs (line ∷ []) m was out m' n
 outputs_one {l} {m} {was} {out} {m'} {n} line e h a =
     let o : printed l (state_of m) ≡ output_of (line ∷ []) (state_of m) = sym (output_one l (state_of m)) ∙ same_printed l line [] (state_of m) e in
@@ -70,7 +70,7 @@ outputs_one {l} {m} {was} {out} {m'} {n} line e h a =
     }
 
 -- lines that print the same and leave the same state
-pub outputs_as : {ls : List (List ℕ)} {m : Arrays} {was out : List ℕ} {m' : Arrays} {n : ℕ} (ms : List (List ℕ)) → Outputs ls m was out m' n
+pub outputs_as : {ls : List (List ℕ)} {m : ListOrderedMultimap} {was out : List ℕ} {m' : ListOrderedMultimap} {n : ℕ} (ms : List (List ℕ)) → Outputs ls m was out m' n
     → output_of ls (state_of m) ≡ output_of ms (state_of m) → after ls (state_of m) ≡ after ms (state_of m) → (ms ≡ [] → ls ≡ []) → Outputs ms m was out m' n
 outputs_as {ls} {m} {was} {out} {m'} {n} ms o e f g =
     record {
@@ -83,7 +83,7 @@ outputs_as {ls} {m} {was} {out} {m'} {n} ms o e f g =
     }
 
 -- one after another
-module _ {ls ms : List (List ℕ)} {m m' m'' : Arrays} {was out part : List ℕ} {u v : ℕ} (p : Outputs ls m was out m' u) (q : Outputs ms m' (drop u out) part m'' v) where
+module _ {ls ms : List (List ℕ)} {m m' m'' : ListOrderedMultimap} {was out part : List ℕ} {u v : ℕ} (p : Outputs ls m was out m' u) (q : Outputs ms m' (drop u out) part m'' v) where
   first : List ℕ
   first = output_of ls (state_of m)
 

@@ -1,4 +1,4 @@
--- Document 01's example of the calls program, by the definitions; and that an input, however it comes in chunks, is answered as a whole. Assumes
+-- An example of the calls program, by the definitions; and that an input, however it comes in chunks, is answered as a whole. Assumes
 -- nothing.
 use Prim.Native.Nat.{ℕ}
 use mathlib.Core.Path.{◌≡◌, refl, sym, ap, ◌∙◌}
@@ -17,7 +17,7 @@ use Rattle.lines.specs.Output.{output_of, after}
 use Rattle.lines.specs.Chunk.{ended, rest, front, last_of}
 use Rattle.lines.specs.Whole.{lines_of, joined, said, example_input, example_output}
 use Rattle.lines.proofs.Outputs.{output_append, same_printed}
-use Rattle.lines.proofs.Chunks.{ended_append, rest_append, same_output, same_state, same_rest, front_front}
+use Rattle.lines.proofs.Chunks.{chunk_append, alike, alike_output, alike_after, front_front}
 
 pub example : output_of (lines_of example_input) (empty highest) ≡ example_output
 unfolding output_of lines_of line_of fields answer_of step checks act decimal_of values pairs
@@ -34,9 +34,10 @@ same_said : (cs : List (List ℕ)) (g h : List ℕ) (s : State) → front g ≡ 
 unfolding said
 same_said [] g h s e = same_last g h s e
 same_said (c ∷ cs) g h s e =
-    ap (λ (o : List ℕ). o ++ said cs (front (rest g c)) (after (ended g c) s)) (same_output c g h s e)
-    ∙ ap (λ (l : List ℕ). output_of (ended h c) s ++ said cs l (after (ended g c) s)) (same_rest c g h e)
-    ∙ ap (λ (t : State). output_of (ended h c) s ++ said cs (front (rest h c)) t) (same_state c g h s e)
+    let a = alike c g h e in
+    ap (λ (o : List ℕ). o ++ said cs (front (rest g c)) (after (ended g c) s)) (alike_output s a.0)
+    ∙ ap (λ (l : List ℕ). output_of (ended h c) s ++ said cs l (after (ended g c) s)) a.1
+    ∙ ap (λ (t : State). output_of (ended h c) s ++ said cs (front (rest h c)) t) (alike_after s a.0)
 
 said_lines : (cs : List (List ℕ)) (h : List ℕ) (s : State) → said cs h s ≡ output_of (ended h (joined cs) ++ last_of (rest h (joined cs))) s
 unfolding said ended rest
@@ -44,11 +45,12 @@ said_lines [] h s = refl
 said_lines (c ∷ cs) h s =
     let b = joined cs in
     let r = rest h c in
+    let a = chunk_append c b h in
     ap (λ (o : List ℕ). output_of (ended h c) s ++ o) (same_said cs (front r) r (after (ended h c) s) (front_front r) ∙ said_lines cs r (after (ended h c) s))
     ∙ sym (output_append (ended h c) (ended r b ++ last_of (rest r b)) s)
     ∙ ap (λ (l : List (List ℕ)). output_of l s) (sym (append_assoc (ended h c) (ended r b) (last_of (rest r b))))
-    ∙ ap (λ (l : List (List ℕ)). output_of (l ++ last_of (rest r b)) s) (sym (ended_append c b h))
-    ∙ ap (λ (l : List ℕ). output_of (ended h (c ++ b) ++ last_of l) s) (sym (rest_append c b h))
+    ∙ ap (λ (l : List (List ℕ)). output_of (l ++ last_of (rest r b)) s) (sym a.0)
+    ∙ ap (λ (l : List ℕ). output_of (ended h (c ++ b) ++ last_of l) s) (sym a.1)
 
 -- lines, with h before the first
 before : List ℕ → List (List ℕ) → List (List ℕ)

@@ -4,7 +4,7 @@ use Rattle.steps.specs.State.{State}
 use Rattle.steps.specs.Step.{over}
 use Rattle.multimap.specs.Map.{state_of}
 use Rattle.multimap.specs.WellLinked.{WellLinked}
-use Rattle.multimap.specs.Arrays.{Arrays}
+use Rattle.multimap.specs.declared.ListOrderedMultimap.{ListOrderedMultimap}
 use Rattle.parsing.specs.Line.{line_of}
 use Rattle.line_calls.specs.Answer.{answer_of}
 use Rattle.one_line.specs.Answers.{printed}
@@ -21,7 +21,7 @@ output_of (l ∷ ls) s = printed l s ++ output_of ls (answer_of (line_of l) s).1
 
 -- the lines are answered: the n printed bytes are at the front of `out`, the others are kept; the map m' that is left is well-linked and has
 -- the state after the lines; without a line it is the very map
-pub record Outputs (ls : List (List ℕ)) (m : Arrays) (was out : List ℕ) (m' : Arrays) (n : ℕ) : Type 0 where
+pub record Outputs (ls : List (List ℕ)) (m : ListOrderedMultimap) (was out : List ℕ) (m' : ListOrderedMultimap) (n : ℕ) : Type 0 where
   pub bytes : out ≡ over (output_of ls (state_of m)) was
   pub count : n ≡ length (output_of ls (state_of m))
   pub room : n ≤ length was

@@ -1,4 +1,4 @@
--- What the calls program prints for an input that comes in chunks; and document 01's example.
+-- What the calls program prints for an input that comes in chunks; and an example.
 use Rattle.std.specs.Prelude.{ℕ, cond, List, [], ◌∷◌, ◌++◌, eqb}
 use Rattle.steps.specs.State.{State}
 use Rattle.parsing.specs.Line.{onto}

@@ -7,7 +7,8 @@ use lib.ListN.{set, length-set}
 use Rattle.links.specs.Stores.{up, spot}
 use Rattle.links.specs.Route.{pick}
 use Rattle.links.specs.Links.{added, joined}
-use Rattle.multimap.specs.Arrays.{Arrays, Sized}
+use Rattle.multimap.specs.declared.ListOrderedMultimap.{ListOrderedMultimap}
+use Rattle.multimap.specs.Sized.{Sized}
 use Rattle.multimap.specs.Changes.{base_of, with_member, with_round}
 use Rattle.multimap.specs.Map.{at, rounds_of, members_of, links_of}
 use Rattle.multimap.proofs.Stores.{at_set, at_set₂, places_eq, links_eq}
@@ -22,15 +23,15 @@ base_is k h = omega arith
 pub fresh_is : (l f : ℕ) → f < 65535 → pick (eqb l f) (up f) f ≡ pick (eqb l f) (f + 1) f
 fresh_is l f h = ap (λ (y : ℕ). pick (eqb l f) y f) (up_is f h)
 
-module _ (a : Arrays) (s : Sized a) where
-  pub member_links : (k p : ℕ) → spot a.members < 256 → at a.previous_key 256 ≤ 256 → at a.members 0 < 256 → at a.members 1 ≤ 256
+module _ (a : ListOrderedMultimap) (s : Sized a) where
+  pub member_links : (k p : ℕ) → spot a.members < 256 → at a.previous_key 256 ≤ 256 → a.members.len < 256 → a.members.fresh ≤ 256
       → links_of (with_member a k p) ≡ joined (links_of a)
   member_links k p fits back len fresh =
       links_eq (links_of (with_member a k p)) _ refl
       (places_eq (members_of (with_member a k p)) _
       (at_set₂ a.next_key (at a.previous_key 256) (spot a.members) (spot a.members) 256 257 s.next_key (omega arith) (omega arith))
       (at_set₂ a.previous_key (spot a.members) (at a.previous_key 256) 256 (spot a.members) 257 s.previous_key (omega arith) (omega arith))
-      refl (up_is (at a.members 0) (omega arith)) (fresh_is (at a.members 0) (at a.members 1) (omega arith)) refl)
+      refl (up_is a.members.len (omega arith)) (fresh_is a.members.len a.members.fresh (omega arith)) refl)
       refl
       (ap (λ (y : ℕ). at (set a.next_index y y)) cell ∙ at_set a.next_index (1024 + spot a.members) (1024 + spot a.members) (rw s.next_index (omega arith)))
       (ap (λ (y : ℕ). at (set a.previous_index y y)) cell ∙ at_set a.previous_index (1024 + spot a.members) (1024 + spot a.members) (rw s.previous_index (omega arith)))
@@ -40,13 +41,13 @@ module _ (a : Arrays) (s : Sized a) where
       cell = base_is (spot a.members) fits
 
   pub round_links : (poster key v : ℕ) → spot a.rounds < 1024 → key < 256 → at a.previous_value 1024 ≤ 1024 → at a.previous_index (1024 + key) < 1280
-      → at a.lengths key < 1024 → at a.rounds 0 < 1024 → at a.rounds 1 ≤ 1024 → links_of (with_round a poster key v) ≡ added (links_of a) key
+      → at a.lengths key < 1024 → a.rounds.len < 1024 → a.rounds.fresh ≤ 1024 → links_of (with_round a poster key v) ≡ added (links_of a) key
   round_links poster key v place fits back tail size len fresh =
       links_eq (links_of (with_round a poster key v)) _
       (places_eq (rounds_of (with_round a poster key v)) _
       (at_set₂ a.next_value (at a.previous_value 1024) (spot a.rounds) (spot a.rounds) 1024 1025 s.next_value (omega arith) (omega arith))
       (at_set₂ a.previous_value (spot a.rounds) (at a.previous_value 1024) 1024 (spot a.rounds) 1025 s.previous_value (omega arith) (omega arith))
-      refl (up_is (at a.rounds 0) (omega arith)) (fresh_is (at a.rounds 0) (at a.rounds 1) (omega arith)) refl)
+      refl (up_is a.rounds.len (omega arith)) (fresh_is a.rounds.len a.rounds.fresh (omega arith)) refl)
       refl
       (at_set a.key_index (spot a.rounds) key (rw s.key_index place))
       (ap (λ (y : ℕ). at (set (set a.next_index (at a.previous_index y) (spot a.rounds)) (spot a.rounds) y)) cell
@@ -72,8 +73,6 @@ module _ (a : Arrays) (s : Sized a) where
         next_index = simp length-set s.next_index;
         previous_index = simp length-set s.previous_index;
         index = simp length-set s.index;
-        members = refl;
-        rounds = s.rounds;
         taken = s.taken;
       }
 
@@ -91,7 +90,5 @@ module _ (a : Arrays) (s : Sized a) where
         next_index = simp length-set s.next_index;
         previous_index = simp length-set s.previous_index;
         index = s.index;
-        members = s.members;
-        rounds = refl;
         taken = simp length-set s.taken;
       }

@@ -7,18 +7,18 @@ use Rattle.steps.specs.State.{max_rounds}
 use Rattle.steps.proofs.Posters.{counting_within}
 use Rattle.links.specs.Links.{Links, record_in}
 use Rattle.links.proofs.Chains.{added_some}
-use Rattle.multimap.specs.Map.{at, links_of}
-use Rattle.multimap.specs.Arrays.{Arrays}
+use Rattle.multimap.specs.Map.{links_of}
+use Rattle.multimap.specs.declared.ListOrderedMultimap.{ListOrderedMultimap}
 use Rattle.multimap.specs.Changes.{with_round}
 use Rattle.multimap.specs.Adding.{Ready, AddedTo}
 use Rattle.multimap.specs.Sweep.{Sound}
 use Rattle.multimap.proofs.Builds.{round_links, round_pairs, round_sound}
 
-module _ (m : Arrays) (key : ℕ) (g : Ready m key) (poster v : ℕ) where
+module _ (m : ListOrderedMultimap) (key : ℕ) (g : Ready m key) (poster v : ℕ) where
   sound : Sound m
   sound = record { sized = g.sized; chained = g.chained; index = g.index }
 
-  room : at m.rounds 0 < max_rounds
+  room : m.rounds.len < max_rounds
   room = omega (arith, g.room, g.limited.allowed.rounds)
 
   pub adds : AddedTo m poster key v (with_round m poster key v)

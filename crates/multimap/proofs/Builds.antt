@@ -23,7 +23,7 @@ use Rattle.index.proofs.Table.{reread, relist}
 use Rattle.index.proofs.Adds.{added as index_added}
 use Rattle.index.proofs.Finds.{says_absent}
 use Rattle.multimap.specs.Map.{at, pair_at, pairs, members, rounds_of, members_of, links_of}
-use Rattle.multimap.specs.Arrays.{Arrays}
+use Rattle.multimap.specs.declared.ListOrderedMultimap.{ListOrderedMultimap}
 use Rattle.multimap.specs.Changes.{with_member, with_round}
 use Rattle.multimap.specs.Sweep.{Sound}
 use Rattle.multimap.proofs.Stores.{map_same, map-append, mem_tally, tally_mem}
@@ -31,7 +31,7 @@ use Rattle.multimap.proofs.Additions as A
 
 -- ---- a round of the member place `key`
 
-module _ (m : Arrays) (g : Sound m) (key : ℕ) (here : 0 < tally key (order (members_of m))) (room : at m.rounds 0 < max_rounds) where
+module _ (m : ListOrderedMultimap) (g : Sound m) (key : ℕ) (here : 0 < tally key (order (members_of m))) (room : m.rounds.len < max_rounds) where
   -- where the stores go
   pub key_fits : key < 256
   key_fits = in_array (members_of m) g.chained.members key here
@@ -53,7 +53,7 @@ module _ (m : Arrays) (g : Sound m) (key : ℕ) (here : 0 < tally key (order (me
 
   module _ (poster v : ℕ) where
     -- the map with the stores
-    abbrev r : Arrays
+    abbrev r : ListOrderedMultimap
     r = with_round m poster key v
 
     pub round_links : links_of (with_round m poster key v) ≡ added (links_of m) key
@@ -100,18 +100,18 @@ module _ (m : Arrays) (g : Sound m) (key : ℕ) (here : 0 < tally key (order (me
 -- ---- a member
 
 -- k is no member of m and can become one; the search for it ended at the place p of the index
-pub record Admits (m : Arrays) (k p : ℕ) : Type 0 where
+pub record Admits (m : ListOrderedMultimap) (k p : ℕ) : Type 0 where
   pub sound : Sound m
-  pub spare : at m.members 0 < max_members
+  pub spare : m.members.len < max_members
   pub vacant : Vacant m.index k p
   pub new : (j : ℕ) → 0 < tally j (order (members_of m)) → at m.keys j ≢ k
 
-pub admits : (m : Arrays) → Sound m → at m.members 0 < max_members → (k p n : ℕ) → search m.index m.keys k ≡ Absent p n → Admits m k p
+pub admits : (m : ListOrderedMultimap) → Sound m → m.members.len < max_members → (k p n : ℕ) → search m.index m.keys k ≡ Absent p n → Admits m k p
 admits m g spare k p n e =
     let w = says_absent m.index m.keys (order (members_of m)) k g.index p n e in
     record { sound = g; spare = spare; vacant = w.0; new = λ j i. w.1 j (tally_mem j (order (members_of m)) i) }
 
-module _ (m : Arrays) (k p : ℕ) (h : Admits m k p) where
+module _ (m : ListOrderedMultimap) (k p : ℕ) (h : Admits m k p) where
   abbrev g : Sound m
   g = h.sound
 
@@ -122,7 +122,7 @@ module _ (m : Arrays) (k p : ℕ) (h : Admits m k p) where
   ks = order (members_of m)
 
   -- the map with the stores
-  abbrev o : Arrays
+  abbrev o : ListOrderedMultimap
   o = with_member m k p
 
   pub members_ends : (at m.next_key 256 ≤ 256) × (at m.previous_key 256 ≤ 256)

@@ -4,13 +4,13 @@ use Rattle.steps.specs.Call.{Call, Outcome}
 use Rattle.steps.specs.Proper.{New}
 use Rattle.steps.specs.Trace.{Kind, Trace}
 use Rattle.steps.proofs.Obeys.{obeys, along_linked}
-use Rattle.multimap.specs.Arrays.{Arrays}
+use Rattle.multimap.specs.declared.ListOrderedMultimap.{ListOrderedMultimap}
 use Rattle.multimap.specs.WellLinked.{WellLinked}
 use Rattle.multimap.specs.Links.{Connected, Indexed}
 use Rattle.multimap.specs.Demand3.{Demand3}
 use Rattle.multimap.proofs.Links.{connected, indexed}
 
-module _ {Map : Type 0} (M : Kind Map) (of : Map → Arrays) (sound : (m : Map) → M.Linked m → WellLinked (of m)) where
+module _ {Map : Type 0} (M : Kind Map) (of : Map → ListOrderedMultimap) (sound : (m : Map) → M.Linked m → WellLinked (of m)) where
   pub demand_3 : {cs : List Call} {m m' : Map} {os : List Outcome} (t : Trace M cs m os m') → M.Linked m → New (M.abs m) → Demand3 M of t
   demand_3 {cs} {m} {m'} {os} t l new =
       let o = obeys M t l new in

@@ -18,7 +18,7 @@ use Rattle.links.proofs.Routes.{keep_same, keep_inside}
 use Rattle.links.proofs.Strips.{keep_neither, strip_those}
 use Rattle.links.proofs.Chains.{in_record}
 use Rattle.multimap.specs.Map.{at, pair_at, pairs, rounds_of, links_of}
-use Rattle.multimap.specs.Arrays.{Arrays}
+use Rattle.multimap.specs.declared.ListOrderedMultimap.{ListOrderedMultimap}
 use Rattle.multimap.specs.WellLinked.{WellLinked}
 use Rattle.multimap.proofs.Stores.{length_pairs}
 use Rattle.multimap.proofs.States.{limited_less}
@@ -27,10 +27,10 @@ use Rattle.multimap.specs.Strike.{chosen, visited, Stretch, Struck, MemberPlace,
 use Rattle.multimap.proofs.Strikes.{chosen_all}
 
 -- the place of a member
-pub place_of : (m : Arrays) → WellLinked m → (k x : ℕ) → Member m k x → MemberPlace m x
+pub place_of : (m : ListOrderedMultimap) → WellLinked m → (k x : ℕ) → Member m k x → MemberPlace m x
 place_of m g k x h = record { linked = g; inside = h.member }
 
-module _ (m : Arrays) (k : ℕ) (h : MemberPlace m k) where
+module _ (m : ListOrderedMultimap) (k : ℕ) (h : MemberPlace m k) where
   abbrev vs : List ℕ
   vs = order (rounds_of m)
 
@@ -57,7 +57,7 @@ module _ (m : Arrays) (k : ℕ) (h : MemberPlace m k) where
 
   -- ---- all its rounds are struck
 
-  module _ (o : Arrays) (s : Struck m (chosen [] (visited true m (at m.next_index (1024 + k)) (at m.lengths k))) o) where
+  module _ (o : ListOrderedMultimap) (s : Struck m (chosen [] (visited true m (at m.next_index (1024 + k)) (at m.lengths k))) o) where
     left : order (rounds_of o) ≡ keep (λ q. not (eqb (key q) k)) vs
     left = s.left ∙ ap (λ (l : List ℕ). strip l vs) (chosen_all (visited true m head (at m.lengths k)) ∙ its_member.walked) ∙ strip_those (λ q. eqb (key q) k) vs
 
@@ -78,7 +78,7 @@ module _ (m : Arrays) (k : ℕ) (h : MemberPlace m k) where
         (ap (map (pair_at m)) (left ∙ sym (keep_same (λ q. not (of (at m.keys k) (pair_at m q))) (λ q. not (eqb (key q) k)) vs (λ q i. ap not (own_round m h.linked k q h.inside i))))
         ∙ sym (filter_map (λ p. not (of (at m.keys k) p)) (pair_at m) vs))
 
-    fewer : at o.rounds 0 < at m.rounds 0
+    fewer : o.rounds.len < m.rounds.len
     fewer =
         omega (
           arith,

@@ -31,7 +31,7 @@ use Rattle.index.proofs.Finds.{says_at, says_absent}
 use Rattle.index.proofs.Pigeon.{less_or_not}
 use Rattle.multimap.specs.Map.{at, pair_at, pairs, members, rounds_of, members_of, links_of}
 use Rattle.multimap.specs.WellLinked.{WellLinked, Counted, Limited}
-use Rattle.multimap.specs.Arrays.{Arrays}
+use Rattle.multimap.specs.declared.ListOrderedMultimap.{ListOrderedMultimap}
 use Rattle.multimap.specs.Represents.{InUse, LeadsTo, Represents, Represented}
 use Rattle.multimap.proofs.Stores.{any_some, mem_tally, tally_mem, length_pairs, length_members}
 use Rattle.multimap.proofs.Records.{filter_map, same_number, places_are, member_at}
@@ -114,12 +114,12 @@ module _ (t keys ks : List ℕ) where
       }
     where
       go : (x : ℕ) → Memᴰ x ks → (r : Found) → searched t keys (get_or keys x 0) ≡ r → FoundKey x r
-      go x i (At p k n) e = let w = says_at t keys ks (get_or keys x 0) h p n k e in h.distinct k.0 x w.2 i w.3
+      go x i (At p k n) e = let w = says_at t keys ks (get_or keys x 0) h p n k e in h.distinct k x w.2 i w.3
       go x i (Absent p n) e = absurd ((says_absent t keys ks (get_or keys x 0) h p n e).1 x i refl)
 
   module _ (h : LeadsTo t keys ks) (size : length t ≡ 512) (few : length ks ≤ 256) (place : (x : ℕ) → 0 < tally x ks → x < 256) where
     -- where the search for a member ends
-    ends : (x : ℕ) → 0 < tally x ks → (p : ℕ) × (k : KeyPlace) × (n : ℕ) × (searched t keys (at keys x) ≡ At p k n) × (k.0 ≡ x)
+    ends : (x : ℕ) → 0 < tally x ks → (p : ℕ) × (k : KeyPlace) × (n : ℕ) × (searched t keys (at keys x) ≡ At p k n) × (k ≡ x)
     ends x i = found_key (searched t keys (at keys x)) x (h.found x i)
 
     stands : (x : ℕ) (i : 0 < tally x ks) → Reached t keys (at keys x) (ends x i).0 (ends x i).1
@@ -135,7 +135,7 @@ module _ (t keys ks : List ℕ) where
         let b = ends k mk in
         let z : At a.0 a.1 a.2 ≡ At b.0 b.1 b.2 = sym a.3 ∙ ap (searched t keys) e ∙ b.3 in
         let same : a.1 ≡ b.1 = cc z in
-        sym a.4 ∙ ap (λ (y : KeyPlace). y.0) same ∙ b.4
+        sym a.4 ∙ same ∙ b.4
 
     -- no place is empty from the start of a search to where it ends
     no_gap : (p q : ℕ) → p < 512 → q < 512 → at t p < 256 → dist (home (at keys (at t p))) q ≤ dist (home (at keys (at t p))) p → at t q < 256
@@ -164,7 +164,7 @@ module _ (t keys ks : List ℕ) where
 
 -- ---- the map
 
-module _ (m : Arrays) where
+module _ (m : ListOrderedMultimap) where
   -- a well-linked map's arrays represent its P and K
   pub represented : WellLinked m → Represented m
   represented g =

@@ -12,7 +12,7 @@ use Rattle.steps.specs.Trace.{Does}
 use Rattle.steps.proofs.Doing.{does_change}
 use Rattle.multimap.specs.Map.{at, pairs, state_of}
 use Rattle.multimap.specs.WellLinked.{WellLinked, linked}
-use Rattle.multimap.specs.Arrays.{Arrays}
+use Rattle.multimap.specs.declared.ListOrderedMultimap.{ListOrderedMultimap}
 use Rattle.multimap.proofs.Records.{Member, first_round}
 use Rattle.multimap.specs.Adding.{AddedTo}
 use Rattle.multimap.specs.Strike.{Emptied}
@@ -39,10 +39,10 @@ module _ (p k v : ℕ) (s : State) (known : ltb 15 p ≡ false) where
 
 -- ---- the map
 
-module _ (p k v : ℕ) (m : Arrays) (known : ltb 15 p ≡ false) (g : WellLinked m) where
+module _ (p k v : ℕ) (m : ListOrderedMultimap) (known : ltb 15 p ≡ false) (g : WellLinked m) where
   -- the member place x has the number k
   module _ (x : ℕ) (u : Member m k x) where
-    module _ (o : Arrays) (d : Emptied m x o) (r : Arrays) (a : AddedTo o p x v r) where
+    module _ (o : ListOrderedMultimap) (d : Emptied m x o) (r : ListOrderedMultimap) (a : AddedTo o p x v r) where
       number : at o.keys x ≡ k
       number = ap (λ (l : List ℕ). at l x) d.keys ∙ u.number
 

@@ -7,18 +7,18 @@ use lib.ListN.{set, length-set}
 use lib.Seq.{get_or-set_same}
 use Rattle.links.specs.Links.{Links, record_in}
 use Rattle.links.specs.Stores.{spot}
-use Rattle.multimap.specs.Arrays.{Arrays}
+use Rattle.multimap.specs.declared.ListOrderedMultimap.{ListOrderedMultimap}
 use Rattle.multimap.specs.Changes.{with_member}
 use Rattle.multimap.specs.Adding.{Ready, Joins, Joined, last_key}
 use Rattle.multimap.proofs.Builds as B
 use Rattle.multimap.proofs.Builds.{Admits}
 
-module _ (m : Arrays) (k p : ℕ) (h : Joins m k p) where
+module _ (m : ListOrderedMultimap) (k p : ℕ) (h : Joins m k p) where
   abbrev key : ℕ
   key = spot m.members
 
   -- the map with the stores
-  abbrev r : Arrays
+  abbrev r : ListOrderedMultimap
   r = with_member m k p
 
   admitted : Admits m k p

@@ -9,15 +9,15 @@ use Rattle.links.specs.Route.{tally}
 use Rattle.links.specs.Places.{order}
 use Rattle.links.proofs.Routes.{Split, split_at}
 use Rattle.links.proofs.Lists.{order_without}
-use Rattle.multimap.specs.Arrays.{Arrays}
+use Rattle.multimap.specs.declared.ListOrderedMultimap.{ListOrderedMultimap}
 use Rattle.multimap.specs.Map.{pair_at, rounds_of, state_of}
 use Rattle.multimap.specs.WellLinked.{WellLinked}
 use Rattle.multimap.specs.Popping.{rest, PairGone}
 use Rattle.multimap.proofs.Stores.{map-append}
 use Rattle.multimap.proofs.Leaving.{all_have}
 
-module _ (a : Arrays) (g : WellLinked a) (x : ℕ) (i : 0 < tally x (order (rounds_of a)))
-    {gone : Bool} (o : Arrays) (w : PairGone a x gone o) where
+module _ (a : ListOrderedMultimap) (g : WellLinked a) (x : ℕ) (i : 0 < tally x (order (rounds_of a)))
+    {gone : Bool} (o : ListOrderedMultimap) (w : PairGone a x gone o) where
   -- the others are kept
   pub gone_state : state_of o ≡ keep (rest a x) (state_of a)
   gone_state =

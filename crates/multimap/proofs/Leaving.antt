@@ -18,14 +18,14 @@ use Rattle.links.proofs.Lists.{length_order}
 use Rattle.links.proofs.Strips.{strip_keep, length_strip}
 use Rattle.multimap.specs.Map.{at, pair_at, pairs, members, rounds_of, members_of, links_of, state_of}
 use Rattle.multimap.specs.WellLinked.{WellLinked, Limited}
-use Rattle.multimap.specs.Arrays.{Arrays}
+use Rattle.multimap.specs.declared.ListOrderedMultimap.{ListOrderedMultimap}
 use Rattle.multimap.proofs.Records.{filter_map, same_number}
 use Rattle.multimap.proofs.States.{limited_less}
 use Rattle.multimap.specs.Strike.{Struck}
 use Rattle.multimap.specs.Sweep.{Sound, Swept}
 
 -- a member has a pair exactly where its record has a place
-module _ (m : Arrays) (g : WellLinked m) (k : ℕ) (i : 0 < tally k (order (members_of m))) where
+module _ (m : ListOrderedMultimap) (g : WellLinked m) (k : ℕ) (i : 0 < tally k (order (members_of m))) where
   pub has_size : (vs : List ℕ) → ((q : ℕ) → 0 < tally q vs → 0 < tally (at m.key_index q) (order (members_of m)))
       → has (at m.keys k) (map (pair_at m) vs) ≡ not (eqb (length (record_of (at m.key_index) k vs)) 0)
   has_size [] h = sym (ap not (eq-eqb 0 0 refl))
@@ -39,7 +39,7 @@ module _ (m : Arrays) (g : WellLinked m) (k : ℕ) (i : 0 < tally k (order (memb
       go true e = sym (ap not (ne_eqb (suc (length (record_of (at m.key_index) k vs))) 0 (λ u. omega arith)))
       go false e = e
 
-module _ (m : Arrays) (g : WellLinked m) (ws : List ℕ) (o : Arrays) (s : Struck m ws o) where
+module _ (m : ListOrderedMultimap) (g : WellLinked m) (ws : List ℕ) (o : ListOrderedMultimap) (s : Struck m ws o) where
   same_members : order (members_of o) ≡ order (members_of m)
   same_members = ap order s.kept.members
 
@@ -66,7 +66,7 @@ module _ (m : Arrays) (g : WellLinked m) (ws : List ℕ) (o : Arrays) (s : Struc
       s.chained.size k (subst (λ (l : List ℕ). 0 < tally k l) (sym same_members) i)
       ∙ ap (λ (l : List _). length (record_of (at l) k (order (rounds_of o)))) s.kept.key_index
 
-  module _ (us : List ℕ) (r : Arrays) (w : Swept o us r) (leavers : strip us (order (members_of o)) ≡ keep with_round_lem (order (members_of o))) where
+  module _ (us : List ℕ) (r : ListOrderedMultimap) (w : Swept o us r) (leavers : strip us (order (members_of o)) ≡ keep with_round_lem (order (members_of o))) where
     left : order (members_of r) ≡ keep with_round_lem (order (members_of o))
     left = w.left ∙ leavers
 
@@ -125,7 +125,7 @@ module _ (m : Arrays) (g : WellLinked m) (ws : List ℕ) (o : Arrays) (s : Struc
     left_state = rw (pairs_now, members_now, w.kept.ledger.taken ∙ s.kept.ledger.taken, w.kept.ledger.limits ∙ s.kept.ledger.limits)
 
 -- every member of a well-linked map has a pair
-pub all_have : (m : Arrays) → WellLinked m → filter (λ n. has n (pairs m)) (members m) ≡ members m
+pub all_have : (m : ListOrderedMultimap) → WellLinked m → filter (λ n. has n (pairs m)) (members m) ≡ members m
 all_have m g =
     filter_map (λ n. has n (pairs m)) (at m.keys) (order (members_of m))
     ∙ ap (map (at m.keys)) (keep_all (λ k. has (at m.keys k) (pairs m)) (order (members_of m)) (λ k i. has_size m g k i (order (rounds_of m)) g.chained.keys

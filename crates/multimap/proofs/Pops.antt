@@ -26,7 +26,8 @@ use Rattle.links.proofs.Bare.{bare_order}
 use Rattle.index.specs.Removal.{Removed}
 use Rattle.multimap.specs.Map.{at, pair_at, pairs, rounds_of, members_of, links_of, state_of}
 use Rattle.multimap.specs.WellLinked.{WellLinked, linked}
-use Rattle.multimap.specs.Arrays.{Arrays, Sized}
+use Rattle.multimap.specs.declared.ListOrderedMultimap.{ListOrderedMultimap}
+use Rattle.multimap.specs.Sized.{Sized}
 use Rattle.multimap.proofs.Stores.{map-append}
 use Rattle.multimap.specs.Strike.{Stretch, Struck, RoundPlace}
 use Rattle.multimap.specs.Sweep.{idle, Sound, Sweepable, Swept}
@@ -69,7 +70,7 @@ or_swap true true c = refl
 or_swap true false c = refl
 or_swap false b c = refl
 
-module _ (m : Arrays) (x : ℕ) (h : RoundPlace m x) where
+module _ (m : ListOrderedMultimap) (x : ℕ) (h : RoundPlace m x) where
   abbrev g : WellLinked m
   g = h.linked
 
@@ -102,7 +103,7 @@ module _ (m : Arrays) (x : ℕ) (h : RoundPlace m x) where
       ∙ ap (λ (b : Bool). of j (f x) || b)
       (sym (ap (λ (l : List ℕ). has j (map f l)) w ∙ ap (has j) (map-append f p.front p.back) ∙ any_append (of j) (map f p.front) (map f p.back)))
 
-  module _ (o : Arrays) (s : Struck m (x ∷ []) o) where
+  module _ (o : ListOrderedMultimap) (s : Struck m (x ∷ []) o) where
     pub sweepable : Sweepable o (at m.key_index x) 1
     sweepable =
         let p : Split place (order (members_of o)) = split_at place (order (members_of o)) (rw (ap order s.kept.members) place_in) in
@@ -125,7 +126,7 @@ module _ (m : Arrays) (x : ℕ) (h : RoundPlace m x) where
         ∙ ap not (sym z ∙ ap (λ (l : List ℕ). has (pair_at m x).key (map (pair_at m) l)) s.left)
 
     -- whichever members have left, so that those with a round are there
-    module _ (us : List ℕ) (r : Arrays) (w : Swept o us r) (leavers : strip us (order (members_of o)) ≡ keep (λ j. not (eqb (at o.lengths j) 0)) (order (members_of o))) where
+    module _ (us : List ℕ) (r : ListOrderedMultimap) (w : Swept o us r) (leavers : strip us (order (members_of o)) ≡ keep (λ j. not (eqb (at o.lengths j) 0)) (order (members_of o))) where
       taken_out : (b : Bool) → eqb (at o.lengths place) 0 ≡ b → PoppedAt m x (popped (at m.keys place) (at m.values x) b) r
       taken_out b e =
           record {
@@ -137,7 +138,7 @@ module _ (m : Arrays) (x : ℕ) (h : RoundPlace m x) where
           }
 
     -- it was the member's last round
-    pub popped_last : at o.lengths (at m.key_index x) ≡ 0 → (r : Arrays) → Swept o (idle o (at m.key_index x) 1) r
+    pub popped_last : at o.lengths (at m.key_index x) ≡ 0 → (r : ListOrderedMultimap) → Swept o (idle o (at m.key_index x) 1) r
         → PoppedAt m x (popped (at m.keys (at m.key_index x)) (at m.values x) true) r
     popped_last e r w = taken_out (idle o place 1) r w (leaves_one (at o.lengths) place (order (members_of o)) others) true (eq-eqb (at o.lengths place) 0 e)
 
@@ -156,12 +157,12 @@ module _ (m : Arrays) (x : ℕ) (h : RoundPlace m x) where
 
 -- ---- the stores
 
-module _ (m : Arrays) (z : Sized m) (x : ℕ) (h : RoundPlace m x) where
+module _ (m : ListOrderedMultimap) (z : Sized m) (x : ℕ) (h : RoundPlace m x) where
   abbrev k : ℕ
   k = at m.key_index x
 
   -- the round is struck
-  abbrev pub taken : Arrays
+  abbrev pub taken : ListOrderedMultimap
   taken = S.r m z h.linked.chained x h.inside
 
   pub round_bounds : S.Bounds m x
@@ -193,7 +194,7 @@ module _ (m : Arrays) (z : Sized m) (x : ℕ) (h : RoundPlace m x) where
     none_left : at taken.lengths k ≡ 0
     none_left = omega (arith, size_now, e)
 
-    abbrev pub taken_both : Arrays
+    abbrev pub taken_both : ListOrderedMultimap
     taken_both = W.r taken now_sized now_sound k k_in closed
 
     both_swept : Swept taken (idle taken k 1) taken_both
@@ -236,24 +237,24 @@ step_back_none s e = rw e
 
 -- ---- the calls
 
-module _ (m : Arrays) (g : WellLinked m) where
-  no_pairs : at m.rounds 0 ≡ 0 → pairs m ≡ []
+module _ (m : ListOrderedMultimap) (g : WellLinked m) where
+  no_pairs : m.rounds.len ≡ 0 → pairs m ≡ []
   no_pairs e = ap (map (pair_at m)) (bare_order (rounds_of m) e)
 
-  pub front_none : at m.rounds 0 ≡ 0 → Does linked pop_front m (say none) m
+  pub front_none : m.rounds.len ≡ 0 → Does linked pop_front m (say none) m
   front_none e = does_stay linked pop_front m (say none) refl g (step_front_none (state_of m) (no_pairs e))
 
-  pub back_none : at m.rounds 0 ≡ 0 → Does linked pop_back m (say none) m
+  pub back_none : m.rounds.len ≡ 0 → Does linked pop_back m (say none) m
   back_none e = does_stay linked pop_back m (say none) refl g (step_back_none (state_of m) (no_pairs e))
 
   -- the place x, where the call's step takes its pair
   popped_so : (c : Call) → packs c ≡ false → (x : ℕ) → step c (state_of m) ≡ (say (popped (pair_at m x).key (pair_at m x).value (not (has (pair_at m x).key (rest m x)))), remove_pair (pair_at m x) (rest m x) (state_of m))
-      → (a : Answer) (r : Arrays) → PoppedAt m x a r → Does linked c m (say a) r
+      → (a : Answer) (r : ListOrderedMultimap) → PoppedAt m x a r → Does linked c m (say a) r
   popped_so c k x e a r p =
       subst (λ y. Does linked c m (say y) r) (sym p.answer)
       (does_change linked c m _ (remove_pair (pair_at m x) (rest m x) (state_of m)) r k refl e p.state p.linked)
 
-  module _ (some : at m.rounds 0 ≢ 0) where
+  module _ (some : m.rounds.len ≢ 0) where
     abbrev ws : List ℕ
     ws = order (rounds_of m)
 
@@ -265,15 +266,15 @@ module _ (m : Arrays) (g : WellLinked m) where
     x = at m.next_value 1024
 
     abbrev ys : List ℕ
-    ys = walk (at m.next_value) (at m.next_value x) (at m.rounds 0 - 1)
+    ys = walk (at m.next_value) (at m.next_value x) (m.rounds.len - 1)
 
     front : ws ≡ x ∷ ys
-    front = let e : at m.rounds 0 ≡ suc (at m.rounds 0 - 1) = omega arith in ap (walk (at m.next_value) x) e
+    front = let e : m.rounds.len ≡ suc (m.rounds.len - 1) = omega arith in ap (walk (at m.next_value) x) e
 
     pub front_round : RoundPlace m (at m.next_value 1024)
     front_round = inside [] ys x front
 
-    pub front_popped : (a : Answer) (r : Arrays) → PoppedAt m (at m.next_value 1024) a r → Does linked pop_front m (say a) r
+    pub front_popped : (a : Answer) (r : ListOrderedMultimap) → PoppedAt m (at m.next_value 1024) a r → Does linked pop_front m (say a) r
     front_popped = popped_so pop_front refl x (step_front (state_of m) (pair_at m x) (rest m x) (ap (map (pair_at m)) (front ∙ ap (λ (l : List ℕ). x ∷ l) (sym (order_without (rounds_of m) g.chained.rounds [] x ys front)))))
 
     -- the last
@@ -286,24 +287,24 @@ module _ (m : Arrays) (g : WellLinked m) where
     pub back_round : RoundPlace m (at m.previous_value 1024)
     back_round = inside back.0 [] z back.1
 
-    pub back_popped : (a : Answer) (r : Arrays) → PoppedAt m (at m.previous_value 1024) a r → Does linked pop_back m (say a) r
+    pub back_popped : (a : Answer) (r : ListOrderedMultimap) → PoppedAt m (at m.previous_value 1024) a r → Does linked pop_back m (say a) r
     back_popped =
         popped_so pop_back refl z
         (step_back (state_of m) (pair_at m z) (rest m z)
         (ap (map (pair_at m)) (back.1 ∙ ap (λ (l : List ℕ). l ++ z ∷ []) (sym (order_without (rounds_of m) g.chained.rounds back.0 z [] back.1 ∙ append-nil back.0))) ∙ map-append (pair_at m) (without z ws) (z ∷ [])))
 
 -- the one pop or the other
-module _ (m : Arrays) (g : WellLinked m) where
-  pub pop_none : (b : Bool) → at m.rounds 0 ≡ 0 → Does linked (pop_of b) m (say none) m
+module _ (m : ListOrderedMultimap) (g : WellLinked m) where
+  pub pop_none : (b : Bool) → m.rounds.len ≡ 0 → Does linked (pop_of b) m (say none) m
   pop_none true = front_none m g
   pop_none false = back_none m g
 
-  module _ (e : at m.rounds 0 ≢ 0) (x : ℕ) where
+  module _ (e : m.rounds.len ≢ 0) (x : ℕ) where
     pub pop_round : (b : Bool) → x ≡ cond b (at m.next_value 1024) (at m.previous_value 1024) → RoundPlace m x
     pop_round true i = rw i (front_round m g e)
     pop_round false i = rw i (back_round m g e)
 
     pub pop_popped : (b : Bool) → x ≡ cond b (at m.next_value 1024) (at m.previous_value 1024)
-        → (a : Answer) (r : Arrays) → PoppedAt m x a r → Does linked (pop_of b) m (say a) r
+        → (a : Answer) (r : ListOrderedMultimap) → PoppedAt m x a r → Does linked (pop_of b) m (say a) r
     pop_popped true i a r p = front_popped m g e a r (subst (λ (y : ℕ). PoppedAt m y a r) i p)
     pop_popped false i a r p = back_popped m g e a r (subst (λ (y : ℕ). PoppedAt m y a r) i p)

@@ -12,27 +12,27 @@ use Rattle.steps.proofs.Doing.{does_refuse, does_change}
 use Rattle.links.specs.Places.{order}
 use Rattle.multimap.specs.Map.{at, members_of, limits_of, state_of}
 use Rattle.multimap.specs.WellLinked.{WellLinked, linked}
-use Rattle.multimap.specs.Arrays.{Arrays}
+use Rattle.multimap.specs.declared.ListOrderedMultimap.{ListOrderedMultimap}
 use Rattle.multimap.proofs.Stores.{any_none}
 use Rattle.multimap.proofs.Records.{Member}
 use Rattle.multimap.proofs.States.{Unknown, is_full, not_full}
 use Rattle.multimap.specs.Adding.{Ready, AddedTo, Joins, Joined, Posted, last_key}
 
-module _ (m : Arrays) (k : ℕ) where
+module _ (m : ListOrderedMultimap) (k : ℕ) where
   -- a member is ready for a further round
-  pub ready_known : (key : ℕ) → WellLinked m → at m.rounds 0 < (limits_of m).rounds → Member m k key → Ready m key
+  pub ready_known : (key : ℕ) → WellLinked m → m.rounds.len < (limits_of m).rounds → Member m k key → Ready m key
   ready_known key g room h = record { sized = g.sized; chained = g.chained; here = h.member; others = λ j i n. g.some j i; index = g.index; counted = g.taken; limited = g.limited; room = room }
 
   -- who is no member can become one
-  pub joins_unknown : (p : ℕ) → WellLinked m → at m.rounds 0 < (limits_of m).rounds → at m.members 0 < (limits_of m).members → Unknown m k p → Joins m k p
+  pub joins_unknown : (p : ℕ) → WellLinked m → m.rounds.len < (limits_of m).rounds → m.members.len < (limits_of m).members → Unknown m k p → Joins m k p
   joins_unknown p g room spare h = record { linked = g; spare = spare; room = room; vacant = h.vacant; new = h.nobody.new }
 
   -- a further round of a member, and the first round of a new one
-  pub posted_known : (poster key v : ℕ) (r : Arrays) → Member m k key → AddedTo m poster key v r → Posted m poster k v r
+  pub posted_known : (poster key v : ℕ) (r : ListOrderedMultimap) → Member m k key → AddedTo m poster key v r → Posted m poster k v r
   posted_known poster key v r h a =
       record { linked = a.linked; state = rw (a.pairs, a.members, a.taken, a.limits, h.number, h.present) }
 
-  pub posted_new : (p poster v : ℕ) (o r : Arrays) → Joins m k p → Joined m k o → AddedTo o poster (last_key o) v r → Posted m poster k v r
+  pub posted_new : (p poster v : ℕ) (o r : ListOrderedMultimap) → Joins m k p → Joined m k o → AddedTo o poster (last_key o) v r → Posted m poster k v r
   posted_new p poster v o r h j a =
       record {
         linked = a.linked;
@@ -60,10 +60,10 @@ module _ (p k v : ℕ) (s : State) (known : ltb 15 p ≡ false) where
   unfolding step checks act
   step_new f a c = rw (known, f, a, c, a)
 
-module _ (p k v : ℕ) (m : Arrays) (known : ltb 15 p ≡ false) where
-  pub append_full : WellLinked m → (limits_of m).rounds ≤ at m.rounds 0 → Does linked (append p k v) m (say (refused 1)) m
+module _ (p k v : ℕ) (m : ListOrderedMultimap) (known : ltb 15 p ≡ false) where
+  pub append_full : WellLinked m → (limits_of m).rounds ≤ m.rounds.len → Does linked (append p k v) m (say (refused 1)) m
   append_full g h = does_refuse linked (append p k v) m 1 g (step_full p k v (state_of m) known (is_full m h))
 
-  pub append_known : (key : ℕ) (r : Arrays) → at m.rounds 0 < (limits_of m).rounds → Member m k key → Posted m p k v r → Does linked (append p k v) m (say (present true)) r
+  pub append_known : (key : ℕ) (r : ListOrderedMultimap) → m.rounds.len < (limits_of m).rounds → Member m k key → Posted m p k v r → Does linked (append p k v) m (say (present true)) r
   append_known key r h u a =
       does_change linked (append p k v) m (say (present true)) (add p k v (state_of m)) r refl refl (step_known p k v (state_of m) known (not_full m h) u.present) a.state a.linked

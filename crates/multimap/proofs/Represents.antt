@@ -23,7 +23,7 @@ use Rattle.index.specs.declared.Found.TheVariants.{At, Absent}
 use Rattle.index.specs.Search.{search}
 use Rattle.multimap.specs.Map.{at, pairs, members, members_of, state_of}
 use Rattle.multimap.specs.WellLinked.{WellLinked}
-use Rattle.multimap.specs.Arrays.{Arrays}
+use Rattle.multimap.specs.declared.ListOrderedMultimap.{ListOrderedMultimap}
 use Rattle.multimap.proofs.Stores.{length_pairs, length_members}
 use Rattle.multimap.proofs.Records.{NoMember, Member, filter_map, same_number, found, not_found}
 
@@ -34,7 +34,7 @@ hits x (q ∷ qs) =
     ⊎_elim (λ (e : q ≡ x). rw (eq-eqb q x e, eq-eqb x q (sym e)) (omega (arith, hits x qs)))
     (λ (e : q ≢ x). rw (ne_eqb q x e, ne_eqb x q (λ u. e (sym u))) (omega (arith, hits x qs))) (same_or_not q x)
 
-module _ (m : Arrays) (g : WellLinked m) where
+module _ (m : ListOrderedMultimap) (g : WellLinked m) where
   abbrev ks : List ℕ
   ks = order (members_of m)
 
@@ -64,7 +64,7 @@ module _ (m : Arrays) (g : WellLinked m) where
   once k = go (search m.index m.keys k) refl
     where
       go : (r : Found) → search m.index m.keys k ≡ r → times (eqb k) (members m) ≡ cond (has k (pairs m)) 1 0
-      go (At p x n) e = let w = found m g k p n x e in rw (member_has k x.0 w (has k (pairs m)) refl) (member_once k x.0 w)
+      go (At p x n) e = let w = found m g k p n x e in rw (member_has k x w (has k (pairs m)) refl) (member_once k x w)
       go (Absent p n) e = let w = not_found m g k p n e in rw (other_has k w (has k (pairs m)) refl) (any_none (eqb k) (members m) w.absent)
 
   pub represents : Proper (state_of m)

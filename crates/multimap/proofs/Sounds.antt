@@ -13,18 +13,18 @@ use Rattle.links.specs.Places.{order}
 use Rattle.links.specs.Links.{record_in}
 use Rattle.links.proofs.Routes.{keep_same}
 use Rattle.multimap.specs.Map.{at, pair_at, pairs, members, rounds_of, members_of, links_of, state_of}
-use Rattle.multimap.specs.Arrays.{Arrays}
+use Rattle.multimap.specs.declared.ListOrderedMultimap.{ListOrderedMultimap}
 use Rattle.multimap.specs.WellLinked.{WellLinked, Limited}
 use Rattle.multimap.specs.Sweep.{Sound}
 use Rattle.multimap.proofs.Stores.{mem_tally, tally_mem, length_pairs, length_members}
 use Rattle.multimap.proofs.Records.{filter_map, same_number}
 use Rattle.multimap.proofs.States.{limited_less}
 
-pub linked_sound : (m : Arrays) → WellLinked m → Sound m
+pub linked_sound : (m : ListOrderedMultimap) → WellLinked m → Sound m
 linked_sound m g = record { sized = g.sized; chained = g.chained; index = g.index }
 
 -- a member's record is as long as it has pairs
-pub record_pairs : (m : Arrays) → Sound m → (x : ℕ) → 0 < tally x (order (members_of m))
+pub record_pairs : (m : ListOrderedMultimap) → Sound m → (x : ℕ) → 0 < tally x (order (members_of m))
     → length (record_in (links_of m) x) ≡ length (filter (of (at m.keys x)) (pairs m))
 record_pairs m g x i =
     let k : ℕ = at m.keys x in
@@ -33,7 +33,7 @@ record_pairs m g x i =
     ∙ ap length (keep_same (λ q. of k (pair_at m q)) (λ q. eqb (at m.key_index q) x) vs
     (λ q j. same_number m.index m.keys (order (members_of m)) g.index (at m.key_index q) x (g.chained.keys q j) i)))
 
-pub sound_linked : (m : Arrays) → WellLinked m → (r : Arrays) → Sound r → state_of r ≡ state_of m → WellLinked r
+pub sound_linked : (m : ListOrderedMultimap) → WellLinked m → (r : ListOrderedMultimap) → Sound r → state_of r ≡ state_of m → WellLinked r
 sound_linked m g r h e =
     record {
       sized = h.sized;

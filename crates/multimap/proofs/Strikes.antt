@@ -14,7 +14,8 @@ use Rattle.links.proofs.Routes.{tally_in, tally_append, tally_same, Once, withou
 use Rattle.links.proofs.Lists.{length_walk, length_order, order_once, in_array, at_most_root, next_in, prev_in}
 use Rattle.links.proofs.Chains.{in_record, record_once, own_member, cells_once, struck_chained, struck_order, size_some, prev_cell, next_cell, cell_fits}
 use Rattle.multimap.specs.Map.{at, rounds_of, members_of, links_of}
-use Rattle.multimap.specs.Arrays.{Arrays, Sized}
+use Rattle.multimap.specs.declared.ListOrderedMultimap.{ListOrderedMultimap}
+use Rattle.multimap.specs.Sized.{Sized}
 use Rattle.multimap.specs.Changes.{without_round}
 use Rattle.multimap.proofs.Stores.{at_set, at_set₂, places_eq, links_eq}
 use Rattle.multimap.proofs.Stretches.{first_of, at_next, split_next, split_past}
@@ -66,7 +67,7 @@ module _ (c : Links) (g : Chained c) (k : ℕ) where
 -- ---- the stores of a turn
 
 -- the place x, its neighbours and its member place are within the arrays, and there is a round to be struck
-pub record Bounds (o : Arrays) (x : ℕ) : Type 0 where
+pub record Bounds (o : ListOrderedMultimap) (x : ℕ) : Type 0 where
   pub place : x < 1024
   pub next : at o.next_value x < 1025
   pub prev : at o.previous_value x < 1025
@@ -74,9 +75,9 @@ pub record Bounds (o : Arrays) (x : ℕ) : Type 0 where
   pub before : at o.previous_index x < 1280
   pub key : at o.key_index x < 256
   pub size : 0 < at o.lengths (at o.key_index x)
-  pub some : 0 < at o.rounds 0
+  pub some : 0 < o.rounds.len
 
-module _ (o : Arrays) (s : Sized o) (g : Chained (links_of o)) (x : ℕ) (i : 0 < tally x (order (rounds_of o))) where
+module _ (o : ListOrderedMultimap) (s : Sized o) (g : Chained (links_of o)) (x : ℕ) (i : 0 < tally x (order (rounds_of o))) where
   abbrev n : ℕ
   n = at o.next_value x
 
@@ -107,14 +108,14 @@ module _ (o : Arrays) (s : Sized o) (g : Chained (links_of o)) (x : ℕ) (i : 0 
         some = omega (arith, tally_in x (order (rounds_of o)) i, length_order (rounds_of o));
       }
 
-  abbrev pub r : Arrays
+  abbrev pub r : ListOrderedMultimap
   r = without_round o x
 
   pub links : links_of r ≡ struck (links_of o) x
   links =
       links_eq (links_of r) _
       (places_eq (rounds_of r) _
-      (at_set₂ o.next_value p n x (at o.rounds 2) 1025 s.next_value bounds.prev (omega (arith, bounds.place)))
+      (at_set₂ o.next_value p n x o.rounds.free 1025 s.next_value bounds.prev (omega (arith, bounds.place)))
       (at_set o.previous_value n p (rw s.previous_value bounds.next))
       refl refl refl refl)
       refl refl
@@ -136,8 +137,6 @@ module _ (o : Arrays) (s : Sized o) (g : Chained (links_of o)) (x : ℕ) (i : 0 
         next_index = simp length-set s.next_index;
         previous_index = simp length-set s.previous_index;
         index = s.index;
-        members = s.members;
-        rounds = refl;
         taken = s.taken;
       }
 
@@ -145,7 +144,7 @@ module _ (o : Arrays) (s : Sized o) (g : Chained (links_of o)) (x : ℕ) (i : 0 
 
 -- After i turns: the course has what was kept, then what is still to be visited, at the first of which the walk is; and striking what is
 -- chosen of that comes to what is asked.
-pub record Turned (b : Bool) (m : Arrays) (start turns : ℕ) (h : Stretch b m start turns) (marks : List ℕ) (i q : ℕ) (o : Arrays) : Type 0 where
+pub record Turned (b : Bool) (m : ListOrderedMultimap) (start turns : ℕ) (h : Stretch b m start turns) (marks : List ℕ) (i q : ℕ) (o : ListOrderedMultimap) : Type 0 where
   pub some : i ≤ turns
   pub sized : Sized o
   pub chained : Chained (links_of o)
@@ -170,7 +169,7 @@ chosen_one [] (suc i) v vs = refl
 chosen_one (b ∷ bs) zero v vs = refl
 chosen_one (b ∷ bs) (suc i) v vs = chosen_one bs i v vs
 
-module _ (b : Bool) (m : Arrays) (start turns : ℕ) (h : Stretch b m start turns) (marks : List ℕ) where
+module _ (b : Bool) (m : ListOrderedMultimap) (start turns : ℕ) (h : Stretch b m start turns) (marks : List ℕ) where
   abbrev k : ℕ
   k = at m.key_index start
 
@@ -193,7 +192,7 @@ module _ (b : Bool) (m : Arrays) (start turns : ℕ) (h : Stretch b m start turn
         rest = refl;
       }
 
-  module _ (i q : ℕ) (o : Arrays) (t : Turned b m start turns h marks i q o) where
+  module _ (i q : ℕ) (o : ListOrderedMultimap) (t : Turned b m start turns h marks i q o) where
     pub turned_all : turns ≤ i → Struck m (chosen marks (visited b m start turns)) o
     turned_all e =
         let a : drop i vs ≡ [] = drop_of_length-le vs {i = i} (omega (arith, long)) in
@@ -248,7 +247,7 @@ module _ (b : Bool) (m : Arrays) (start turns : ℕ) (h : Stretch b m start turn
 
       -- the round is struck
       module _ (y : ℕ) (ey : y ≡ onward b (links_of o) q) (f : eqb (get_or marks i 0) 0 ≡ true) where
-        abbrev a : Arrays
+        abbrev a : ListOrderedMultimap
         a = r o t.sized t.chained q q_in
 
         eq : links_of a ≡ struck (links_of o) q

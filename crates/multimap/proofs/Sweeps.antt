@@ -21,7 +21,8 @@ use Rattle.index.specs.Table as T
 use Rattle.index.proofs.Table.{relist}
 use Rattle.index.proofs.Without.{without_mem, mem_without}
 use Rattle.multimap.specs.Map.{at, members_of, links_of}
-use Rattle.multimap.specs.Arrays.{Arrays, Sized}
+use Rattle.multimap.specs.declared.ListOrderedMultimap.{ListOrderedMultimap}
+use Rattle.multimap.specs.Sized.{Sized}
 use Rattle.multimap.specs.Changes.{without_member}
 use Rattle.multimap.proofs.Stores.{at_set, at_set₂, places_eq, links_eq, mem_tally, tally_mem}
 use Rattle.multimap.proofs.Stretches.{first_of, at_next, split_next, split_past}
@@ -30,13 +31,13 @@ use Rattle.multimap.specs.Sweep.{passed, idle, Sound, Sweepable, MembersOnly, Sw
 -- ---- the stores of a turn
 
 -- the place x and its neighbours are within the arrays, and there is a member to leave
-pub record Bounds (o : Arrays) (x : ℕ) : Type 0 where
+pub record Bounds (o : ListOrderedMultimap) (x : ℕ) : Type 0 where
   pub place : x < 256
   pub next : at o.next_key x < 257
   pub prev : at o.previous_key x < 257
-  pub some : 0 < at o.members 0
+  pub some : 0 < o.members.len
 
-module _ (o : Arrays) (s : Sized o) (g : Sound o) (x : ℕ) (i : 0 < tally x (order (members_of o))) where
+module _ (o : ListOrderedMultimap) (s : Sized o) (g : Sound o) (x : ℕ) (i : 0 < tally x (order (members_of o))) where
   abbrev n : ℕ
   n = at o.next_key x
 
@@ -54,12 +55,12 @@ module _ (o : Arrays) (s : Sized o) (g : Sound o) (x : ℕ) (i : 0 < tally x (or
         some = omega (arith, tally_in x (order (members_of o)) i, length_order (members_of o));
       }
 
-  abbrev pub r : List ℕ → Arrays
+  abbrev pub r : List ℕ → ListOrderedMultimap
   r closed = without_member o x closed
 
   -- the index has closed the gap
   module _ (closed : List ℕ) (none : at o.lengths x ≡ 0) (shut : Holds closed o.keys (T.without x (order (members_of o)))) where
-    abbrev a : Arrays
+    abbrev a : ListOrderedMultimap
     a = r closed
 
     abbrev ks : List ℕ
@@ -69,7 +70,7 @@ module _ (o : Arrays) (s : Sized o) (g : Sound o) (x : ℕ) (i : 0 < tally x (or
     links =
         links_eq (links_of a) _ refl
         (places_eq (members_of a) _
-        (at_set₂ o.next_key p n x (at o.members 2) 257 s.next_key bounds.prev (omega (arith, bounds.place)))
+        (at_set₂ o.next_key p n x o.members.free 257 s.next_key bounds.prev (omega (arith, bounds.place)))
         (at_set o.previous_key n p (rw s.previous_key bounds.next))
         refl refl refl refl)
         refl refl refl refl
@@ -106,8 +107,6 @@ module _ (o : Arrays) (s : Sized o) (g : Sound o) (x : ℕ) (i : 0 < tally x (or
           next_index = s.next_index;
           previous_index = s.previous_index;
           index = shut.size;
-          members = refl;
-          rounds = s.rounds;
           taken = s.taken;
         }
 
@@ -118,7 +117,7 @@ module _ (o : Arrays) (s : Sized o) (g : Sound o) (x : ℕ) (i : 0 < tally x (or
 
 -- After i turns: the list of members has those that were kept, then those still to be passed, at the first of which the walk is; and letting
 -- leave those of them that have no round comes to what is asked.
-pub record Turned (m : Arrays) (start turns : ℕ) (h : Sweepable m start turns) (i q : ℕ) (o : Arrays) : Type 0 where
+pub record Turned (m : ListOrderedMultimap) (start turns : ℕ) (h : Sweepable m start turns) (i q : ℕ) (o : ListOrderedMultimap) : Type 0 where
   pub some : i ≤ turns
   pub sized : Sized o
   pub sound : Sound o
@@ -128,7 +127,7 @@ pub record Turned (m : Arrays) (start turns : ℕ) (h : Sweepable m start turns)
   pub here : i < turns → q ≡ get_or (drop i (passed m start turns) ++ h.back) 0 256
   pub rest : strip (idle m start turns) (order (members_of m)) ≡ strip (keep (λ k. eqb (at m.lengths k) 0) (drop i (passed m start turns))) (order (members_of o))
 
-module _ (m : Arrays) (start turns : ℕ) (h : Sweepable m start turns) where
+module _ (m : ListOrderedMultimap) (start turns : ℕ) (h : Sweepable m start turns) where
   abbrev vs : List ℕ
   vs = passed m start turns
 
@@ -151,7 +150,7 @@ module _ (m : Arrays) (start turns : ℕ) (h : Sweepable m start turns) where
         rest = refl;
       }
 
-  module _ (i q : ℕ) (o : Arrays) (t : Turned m start turns h i q o) where
+  module _ (i q : ℕ) (o : ListOrderedMultimap) (t : Turned m start turns h i q o) where
     pub turned_all : turns ≤ i → Swept m (idle m start turns) o
     turned_all e =
         let a : drop i vs ≡ [] = drop_of_length-le vs {i = i} (omega (arith, long)) in
@@ -229,7 +228,7 @@ module _ (m : Arrays) (start turns : ℕ) (h : Sweepable m start turns) where
             }
 
 -- the member numbers are those of m, of which the index loses one
-pub shut_gap : (m o : Arrays) → MembersOnly m o → Sound o → (x : ℕ) → 0 < tally x (order (members_of o)) → (closed : List ℕ)
+pub shut_gap : (m o : ListOrderedMultimap) → MembersOnly m o → Sound o → (x : ℕ) → 0 < tally x (order (members_of o)) → (closed : List ℕ)
     → Removed o.index m.keys (at m.keys x) closed → Holds closed o.keys (T.without x (order (members_of o)))
 shut_gap m o k g x i closed r =
     let ks = order (members_of o) in

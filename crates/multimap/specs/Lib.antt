@@ -1,6 +1,5 @@
 -- What the contracts of `multimap` cite.
-pub mod Arrays
-pub mod Lent
+pub mod Sized
 pub mod Map
 pub mod Changes
 pub mod WellLinked

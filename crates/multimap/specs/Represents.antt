@@ -12,7 +12,8 @@ use Rattle.links.specs.Places.{Places, freed}
 use Rattle.index.specs.Search.{search}
 use Rattle.index.specs.Agree.{FoundKey}
 use Rattle.multimap.specs.Map.{at, pair_at, rounds_of, members_of, limits_of}
-use Rattle.multimap.specs.Arrays.{Arrays, Sized}
+use Rattle.multimap.specs.declared.ListOrderedMultimap.{ListOrderedMultimap}
+use Rattle.multimap.specs.Sized.{Sized}
 
 -- The places xs are in use in the list l, in this order: next leads from the end cell through them and back, previous the other way; the count
 -- is theirs; and each other place that was ever used is met from the first freed one by next, in as many steps as there are others.
@@ -31,7 +32,7 @@ pub record LeadsTo (t keys ks : List ℕ) : Type 0 where
   pub once : (p q : ℕ) → p < 512 → q < 512 → 0 < tally (at t p) ks → at t p ≡ at t q → p ≡ q
 
 -- The arrays represent the pairs P and the members K.
-pub record Represents (m : Arrays) (P : List Pair) (K : List ℕ) : Type 0 where
+pub record Represents (m : ListOrderedMultimap) (P : List Pair) (K : List ℕ) : Type 0 where
   pub sized : Sized m
   -- the list of rounds: the places of P's pairs
   pub vs : List ℕ
@@ -51,7 +52,7 @@ pub record Represents (m : Arrays) (P : List Pair) (K : List ℕ) : Type 0 where
 
 -- Module 6: the arrays represent some P and K, K holds each member of P exactly once and no other, each counter of T is within its bound, the limits are ones
 -- that a map may have, and K and P are within them.
-pub record Represented (m : Arrays) : Type 0 where
+pub record Represented (m : ListOrderedMultimap) : Type 0 where
   pub pairs : List Pair
   pub members : List ℕ
   pub represents : Represents m pairs members

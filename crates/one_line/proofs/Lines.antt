@@ -9,10 +9,8 @@ use lib.Dec.{leb}
 use lib.ListN.{length, take, drop, set, length-drop}
 use lib.Seq.{take_all}
 use Rattle.multimap.specs.Map.{state_of}
-use Rattle.multimap.specs.Arrays.{Arrays}
+use Rattle.multimap.specs.declared.ListOrderedMultimap.{ListOrderedMultimap}
 use Rattle.parsing.specs.Line.{line_of, keeps, bad, mark_of}
-use Rattle.parsing.specs.Told.{told}
-use Rattle.parsing.specs.declared.Request.{Request}
 use Rattle.parsing.proofs.Forms.{line_long}
 use Rattle.printing.specs.Put.{Put}
 use Rattle.printing.specs.Said.{Said, Roomy, max_printed}
@@ -21,10 +19,6 @@ use Rattle.line_calls.specs.Answer.{answer_of, marks_line}
 use Rattle.line_calls.specs.Replied.{Replied}
 use Rattle.line_calls.proofs.Calls.{marks_short, put_over}
 use Rattle.one_line.specs.Answers.{printed, Answers}
-
--- what a form is told to be, the line is
-pub asked : {q q' : Request} (l : List ℕ) → told q l ≡ line_of l → q ≡ q' → told q' l ≡ line_of l
-asked l e f = rw f at e
 
 short_when : (l ms : List ℕ) (t : Bool) → leb (length l) 1100 ≡ t → keeps ms ≡ line_of l → length l ≤ 1100
 short_when l ms true i e = leb-true (length l) 1100 i
@@ -50,7 +44,7 @@ pub marks_rest : (l : List ℕ) (n : ℕ) → n ≡ min 2 (length l) → keeps (
 marks_rest l n e h = ap marks_line (marks_part l n e) ∙ sym (marks_short (drop 2 l) (omega (arith, keeps_short l (map mark_of (drop 2 l)) h, length-drop 2 l))) ∙ h
 
 -- a line is answered, with its line end after the text
-module _ (line : List ℕ) (m : Arrays) {was out : List ℕ} {m' : Arrays} {n : ℕ} (h : Roomy was) (p : Replied (line_of line) m was out m' n) where
+module _ (line : List ℕ) (m : ListOrderedMultimap) {was out : List ℕ} {m' : ListOrderedMultimap} {n : ℕ} (h : Roomy was) (p : Replied (line_of line) m was out m' n) where
   said : Said was (answer_of (line_of line) (state_of m)).0 out n
   said = p.prints.said h
 
@@ -80,6 +74,6 @@ module _ (line : List ℕ) (m : Arrays) {was out : List ℕ} {m' : Arrays} {n : 
       }
 
 -- there is no room
-pub line_unanswered : (line : List ℕ) (m : Arrays) (was : List ℕ) → length was < max_printed → Answers line m was was m 0
+pub line_unanswered : (line : List ℕ) (m : ListOrderedMultimap) (was : List ℕ) → length was < max_printed → Answers line m was was m 0
 line_unanswered line m was h =
     record { answered = λ g. absurd (omega arith); unanswered = λ g. record { kept = refl; none = refl; same = refl } }

@@ -1,3 +1,1 @@
 pub mod Demand3
-pub mod Packing
-pub mod Replies

@@ -1,2 +1,1 @@
--- What the contracts of `ordered_multimap` cite.
-pub mod Turned
+-- What the contracts of `ordered_multimap` cite is in the crates below it.

@@ -2,29 +2,40 @@
 ghost use Rattle.steps.specs.Call as C;
 ghost use Rattle.steps.specs.Step.{say};
 ghost use Rattle.steps.specs.Trace.{Does};
-ghost use Rattle.multimap.specs.Arrays.{arrays_of};
-ghost use Rattle.multimap.specs.WellLinked.{WellLinked, typed};
-ghost use Rattle.answers.specs.Answers.{answer_of};
+ghost use Rattle.multimap.specs.WellLinked.{WellLinked, linked};
+ghost use Rattle.answers.specs.Answers.{answered, done_of, round_of};
 
 use super::{ListOrderedMultimap, Reply};
+use answers::Refusal;
 
-pub fn append(m: ListOrderedMultimap, poster: u64, k: u64, v: u64) -> Reply
-    requires { WellLinked (arrays_of m) }
-    ensures { Does typed (C.occupied_append poster k v) m (say (answer_of result.answer)) result.map }
+pub fn append(m: ListOrderedMultimap, poster: u64, k: u64, v: u64) -> Reply<Result<(), Refusal>>
+    requires { WellLinked m }
+    ensures { Does linked (C.occupied_append poster k v) m (say (answered done_of result.answer)) result.map }
 {
-    super::plain(m, 6, poster, k, v)
+    let mut map = m;
+    let answer = entries::occupied_append(&mut map, poster, k, v);
+    Reply { map, answer }
 }
 
-pub fn insert(m: ListOrderedMultimap, poster: u64, k: u64, v: u64) -> Reply
-    requires { WellLinked (arrays_of m) }
-    ensures { Does typed (C.occupied_insert poster k v) m (say (answer_of result.answer)) result.map }
+pub fn insert(
+    m: ListOrderedMultimap,
+    poster: u64,
+    k: u64,
+    v: u64,
+) -> Reply<Result<Option<u64>, Refusal>>
+    requires { WellLinked m }
+    ensures { Does linked (C.occupied_insert poster k v) m (say (answered round_of result.answer)) result.map }
 {
-    super::plain(m, 7, poster, k, v)
+    let mut map = m;
+    let answer = entries::occupied_insert(&mut map, poster, k, v);
+    Reply { map, answer }
 }
 
-pub fn remove_entry(m: ListOrderedMultimap, k: u64) -> Reply
-    requires { WellLinked (arrays_of m) }
-    ensures { Does typed (C.occupied_remove_entry k) m (say (answer_of result.answer)) result.map }
+pub fn remove_entry(m: ListOrderedMultimap, k: u64) -> Reply<Result<Option<u64>, Refusal>>
+    requires { WellLinked m }
+    ensures { Does linked (C.occupied_remove_entry k) m (say (answered round_of result.answer)) result.map }
 {
-    super::plain(m, 8, 0, k, 0)
+    let mut map = m;
+    let answer = entries::occupied_remove_entry(&mut map, k);
+    Reply { map, answer }
 }

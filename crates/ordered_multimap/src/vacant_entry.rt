@@ -2,15 +2,17 @@
 ghost use Rattle.steps.specs.Call as C;
 ghost use Rattle.steps.specs.Step.{say};
 ghost use Rattle.steps.specs.Trace.{Does};
-ghost use Rattle.multimap.specs.Arrays.{arrays_of};
-ghost use Rattle.multimap.specs.WellLinked.{WellLinked, typed};
-ghost use Rattle.answers.specs.Answers.{answer_of};
+ghost use Rattle.multimap.specs.WellLinked.{WellLinked, linked};
+ghost use Rattle.answers.specs.Answers.{answered, done_of};
 
 use super::{ListOrderedMultimap, Reply};
+use answers::Refusal;
 
-pub fn insert(m: ListOrderedMultimap, poster: u64, k: u64, v: u64) -> Reply
-    requires { WellLinked (arrays_of m) }
-    ensures { Does typed (C.vacant_insert poster k v) m (say (answer_of result.answer)) result.map }
+pub fn insert(m: ListOrderedMultimap, poster: u64, k: u64, v: u64) -> Reply<Result<(), Refusal>>
+    requires { WellLinked m }
+    ensures { Does linked (C.vacant_insert poster k v) m (say (answered done_of result.answer)) result.map }
 {
-    super::plain(m, 9, poster, k, v)
+    let mut map = m;
+    let answer = entries::vacant_insert(&mut map, poster, k, v);
+    Reply { map, answer }
 }

@@ -1,18 +1,16 @@
 -- A map with no place in use, and the step of `clear`. Assumes nothing.
 use Prim.Native.Nat.{ℕ, zero, suc, ◌<◌}
-use mathlib.Core.Path.{◌≡◌, refl, ap, sym, subst, ◌∙◌}
-use mathlib.Core.Bool.{Bool, true, false}
+use mathlib.Core.Path.{◌≡◌, refl, ap, sym, ◌∙◌}
+use mathlib.Core.Bool.{true, false}
 use mathlib.Core.List.{List, []}
 use native.Mathlib.Omega.{arith}
 use lib.ListN.{length, get_or, set, length-set, length-replicate}
 use lib.Seq.{get_or-set_same}
-use Rattle.steps.specs.State.{State, Limits, limit, empty}
+use Rattle.steps.specs.State.{State, Limits, empty, limit}
 use Rattle.steps.specs.Call.{Answer, clear, refused, done}
-use Rattle.steps.specs.Coded.{coded}
-use Rattle.steps.specs.Step.{step, checks, act, say, too_high, make_of}
+use Rattle.steps.specs.Step.{step, checks, act, say, too_high}
 use Rattle.steps.specs.Proper.{Allowed}
 use Rattle.steps.specs.Trace.{Does}
-use Rattle.steps.specs.Told.{Told}
 use Rattle.steps.proofs.Doing.{does_change}
 use Rattle.steps.proofs.Limits.{made_refused, made_done, may_have}
 use Rattle.steps.proofs.Posters.{none_taken}
@@ -21,15 +19,15 @@ use Rattle.links.specs.Places.{order}
 use Rattle.links.specs.Links.{record_of}
 use Rattle.links.proofs.Bare.{bare_order}
 use Rattle.links.proofs.Lists.{length_order}
-use Rattle.index.specs.Table.{empty_index}
 use Rattle.index.proofs.Table.{empty_holds}
-use Rattle.multimap.specs.Arrays.{Arrays, Sized, arrays}
+use Rattle.multimap.specs.declared.ListOrderedMultimap.{ListOrderedMultimap}
+use Rattle.multimap.specs.Sized.{Sized}
 use Rattle.multimap.specs.Map.{at, rounds_of, members_of, limits_of, state_of}
-use Rattle.multimap.specs.Making.{Made}
+use Rattle.multimap.specs.Making.{Makes}
 use Rattle.multimap.specs.WellLinked.{WellLinked, Counted, linked}
 use Rattle.multimap.proofs.Copies.{get_d_in}
 use Rattle.multimap.proofs.Empty.{empty_map}
-use Rattle.packing.specs.Cleared.{unused, cleared, zeros}
+use Rattle.packing.specs.Cleared.{cleared, zeros}
 
 -- no pair and no member, this T and these limits
 abbrev nothing : List ℕ → Limits → State
@@ -39,14 +37,7 @@ nothing t l = record { pairs = []; members = []; taken = t; limits = l }
 end_cell : (t : List ℕ) (n i : ℕ) → length t ≡ n → i < n → at (set t i i) i ≡ i
 end_cell t n i e h = get_or-set_same t i i 0 (rw e h)
 
-module _ (a : Arrays) where
-  -- what the stores of `vacate` leave
-  pub vacated : {nk pk nv pv : List ℕ} → nk ≡ set a.next_key 256 256 → pk ≡ set a.previous_key 256 256
-      → nv ≡ set a.next_value 1024 1024 → pv ≡ set a.previous_value 1024 1024
-      → arrays a.keys a.lengths nk pk a.values a.key_index nv pv a.next_index a.previous_index
-      empty_index (unused (at a.members 3)) (unused (at a.rounds 3)) a.taken ≡ cleared a
-  vacated nk pk nv pv = rw (pv, nv, pk, nk)
-
+module _ (a : ListOrderedMultimap) where
   cleared_sized : Sized a → Sized (cleared a)
   cleared_sized s =
       record {
@@ -61,8 +52,6 @@ module _ (a : Arrays) where
         next_index = s.next_index;
         previous_index = s.previous_index;
         index = length-replicate {A = ℕ} 512 65535;
-        members = refl;
-        rounds = refl;
         taken = s.taken;
       }
 
@@ -80,80 +69,62 @@ step_clear : (s : State) → step clear s ≡ (say done, nothing s.taken s.limit
 unfolding step checks act
 step_clear s = refl
 
-module _ (a : Arrays) (g : WellLinked a) where
-  clears : Does linked clear a (say done) (cleared a)
+module _ (a : ListOrderedMultimap) (g : WellLinked a) where
+  pub clears : Does linked clear a (say done) (cleared a)
   clears =
       let e = cleared_map a g.sized g.limited.allowed g.taken in
       does_change linked clear a (say done) (nothing a.taken (limits_of a)) (cleared a) refl refl (step_clear (state_of a)) e.1 e.0
 
   -- a map that holds no round has no member either: it stays as it is
-  module _ (none : at a.rounds 0 ≡ 0) where
+  module _ (none : a.rounds.len ≡ 0) where
     no_rounds : order (rounds_of a) ≡ []
     no_rounds = bare_order (rounds_of a) none
 
     no_members : order (members_of a) ≡ []
-    no_members = bare_order (members_of a) (go (at a.members 0) refl)
+    no_members = bare_order (members_of a) (go a.members.len refl)
       where
-        go : (n : ℕ) → at a.members 0 ≡ n → at a.members 0 ≡ 0
+        go : (n : ℕ) → a.members.len ≡ n → a.members.len ≡ 0
         go zero e = e
         go (suc n) e =
             let x : ℕ = get_or (order (members_of a)) 0 0 in
             let i : 0 < tally x (order (members_of a)) = get_d_in (order (members_of a)) 0 0 (omega (arith, length_order (members_of a), e)) in
             absurd (omega (arith, g.some x i, ap (λ (l : List ℕ). length (record_of (at a.key_index) x l)) no_rounds))
 
-    stays : Does linked clear a (say done) a
+    pub stays : Does linked clear a (say done) a
     stays =
         does_change linked clear a (say done) (nothing a.taken (limits_of a)) a refl refl (step_clear (state_of a)) (rw (no_rounds, no_members)) g
 
-    pub told_nothing : (ans : List ℕ) → ans ≡ coded done → Told linked clear a a [] [] ans
-    told_nothing ans w = record { outcome = say done; does = stays; out_is = refl; out2_is = refl; ans_is = w }
+-- a new map
+module _ (l : Limits) where
+  abbrev new_map : ListOrderedMultimap
+  new_map = cleared (zeros l.members l.rounds)
 
-  pub told_clear : (r : Arrays) → r ≡ cleared a → (ans : List ℕ) → ans ≡ coded done → Told linked clear a r [] [] ans
-  told_clear r e ans w =
-      record { outcome = say done; does = subst (Does linked clear a (say done)) (sym e) clears; out_is = refl; out2_is = refl; ans_is = w }
-
--- ---- a new map
-
-zeros_sized : (m r : ℕ) → Sized (zeros m r)
-zeros_sized m r =
-    record {
-      keys = length-replicate {A = ℕ} 256 0;
-      lengths = length-replicate {A = ℕ} 256 0;
-      next_key = length-replicate {A = ℕ} 257 0;
-      previous_key = length-replicate {A = ℕ} 257 0;
-      values = length-replicate {A = ℕ} 1024 0;
-      key_index = length-replicate {A = ℕ} 1024 0;
-      next_value = length-replicate {A = ℕ} 1025 0;
-      previous_value = length-replicate {A = ℕ} 1025 0;
-      next_index = length-replicate {A = ℕ} 1280 0;
-      previous_index = length-replicate {A = ℕ} 1280 0;
-      index = length-replicate {A = ℕ} 512 65535;
-      members = refl;
-      rounds = refl;
-      taken = length-replicate {A = ℕ} 16 0;
-    }
-
-new_map : (l : Limits) → Allowed l
-    → WellLinked (cleared (zeros l.members l.rounds)) × (state_of (cleared (zeros l.members l.rounds)) ≡ empty l)
-new_map l a = cleared_map (zeros l.members l.rounds) (zeros_sized l.members l.rounds) a (none_taken 16)
-
--- what is made with the limits l is the map with the limits k
-module _ (l k : Limits) (allowed : Allowed k) (a : Answer) (is : make_of l ≡ (a, empty k)) where
-  made : {o : Arrays} {ans : List ℕ} → o ≡ cleared (zeros k.members k.rounds) → ans ≡ coded a → Made l o ans
-  made e w =
+  new_is : Allowed l → WellLinked new_map × (state_of new_map ≡ empty l)
+  new_is h =
+      cleared_map (zeros l.members l.rounds)
       record {
-        answer = a;
-        makes = record {
-          answer = sym (ap (λ (r : Answer × State). r.0) is);
-          state = ap state_of e ∙ (new_map k allowed).1 ∙ sym (ap (λ (r : Answer × State). r.1) is);
-          linked = subst WellLinked (sym e) (new_map k allowed).0;
-        };
-        ans_is = w;
+        keys = length-replicate {A = ℕ} 256 0;
+        lengths = length-replicate {A = ℕ} 256 0;
+        next_key = length-replicate {A = ℕ} 257 0;
+        previous_key = length-replicate {A = ℕ} 257 0;
+        values = length-replicate {A = ℕ} 1024 0;
+        key_index = length-replicate {A = ℕ} 1024 0;
+        next_value = length-replicate {A = ℕ} 1025 0;
+        previous_value = length-replicate {A = ℕ} 1025 0;
+        next_index = length-replicate {A = ℕ} 1280 0;
+        previous_index = length-replicate {A = ℕ} 1280 0;
+        index = length-replicate {A = ℕ} 512 65535;
+        taken = length-replicate {A = ℕ} 16 0;
       }
+      h (none_taken 16)
 
-module _ (l : Limits) {b : Bool} (high : b ≡ too_high l) where
-  pub made_none : b ≡ true → {o : Arrays} {ans : List ℕ} → o ≡ cleared (zeros 0 0) → ans ≡ coded (refused 15) → Made l o ans
-  made_none h = made l (limit 0 0) (record { members = omega arith; rounds = omega arith }) (refused 15) (made_refused l (sym high ∙ h))
+  pub makes_new : {m : ListOrderedMultimap} → m ≡ new_map → too_high l ≡ false → Makes l done m
+  makes_new e h =
+      let n = new_is (may_have l refl h) in
+      rw e (record { answer = sym (ap (λ (r : Answer × State). r.0) (made_done l h)); state = n.1 ∙ sym (ap (λ (r : Answer × State). r.1) (made_done l h)); linked = n.0 })
 
-  pub made_new : b ≡ false → {o : Arrays} {ans : List ℕ} → o ≡ cleared (zeros l.members l.rounds) → ans ≡ coded done → Made l o ans
-  made_new h = made l l (may_have l high h) done (made_done l (sym high ∙ h))
+-- one that may not be made
+pub makes_none : (l : Limits) {m : ListOrderedMultimap} → m ≡ cleared (zeros 0 0) → too_high l ≡ true → Makes l (refused 15) m
+makes_none l e h =
+    let n = new_is (limit 0 0) (may_have (limit 0 0) refl refl) in
+    rw e (record { answer = sym (ap (λ (r : Answer × State). r.0) (made_refused l h)); state = n.1 ∙ sym (ap (λ (r : Answer × State). r.1) (made_refused l h)); linked = n.0 })

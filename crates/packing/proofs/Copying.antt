@@ -24,87 +24,87 @@ copied_more f xs i out c room {v} e j h =
 -- ---- the walk
 
 -- after i steps it is at x
-pub record Walked (next : List ℕ) (root : ℕ) (counts : List ℕ) (i x : ℕ) : Type 0 where
-  pub some : i ≤ at counts 0
-  pub here : x ≡ get_or (listed next root counts) i (beyond (at next) (at next root) (at counts 0))
+pub record Walked (next : List ℕ) (root : ℕ) (len : ℕ) (i x : ℕ) : Type 0 where
+  pub some : i ≤ len
+  pub here : x ≡ get_or (listed next root len) i (beyond (at next) (at next root) len)
 
-module _ (next : List ℕ) (root : ℕ) (counts : List ℕ) where
+module _ (next : List ℕ) (root len : ℕ) where
   abbrev xs : List ℕ
-  xs = listed next root counts
+  xs = listed next root len
 
   abbrev end : ℕ
-  end = beyond (at next) (at next root) (at counts 0)
+  end = beyond (at next) (at next root) len
 
-  pub long : length (listed next root counts) ≡ at counts 0
-  long = length_walk (at next) (at next root) (at counts 0)
+  pub long : length (listed next root len) ≡ len
+  long = length_walk (at next) (at next root) len
 
-  pub walk_none : {x : ℕ} → x ≡ at next root → Walked next root counts 0 x
-  walk_none e = record { some = omega arith; here = e ∙ (walk_way (at next) (at next root) (at counts 0)).start }
+  pub walk_none : {x : ℕ} → x ≡ at next root → Walked next root len 0 x
+  walk_none e = record { some = omega arith; here = e ∙ (walk_way (at next) (at next root) len).start }
 
-  module _ (i x : ℕ) (w : Walked next root counts i x) (more : i < at counts 0) where
-    pub place_is : x ≡ get_or (listed next root counts) i 0
+  module _ (i x : ℕ) (w : Walked next root len i x) (more : i < len) where
+    pub place_is : x ≡ get_or (listed next root len) i 0
     place_is = w.here ∙ nth_any xs i end 0 (rw long more)
 
-    pub turn_fits : Distinct (listed next root counts) root → i < root
+    pub turn_fits : Distinct (listed next root len) root → i < root
     turn_fits d = omega (arith, long, d.few)
 
-    pub place_fits : Distinct (listed next root counts) root → x < root
+    pub place_fits : Distinct (listed next root len) root → x < root
     place_fits d = d.inside x (rw place_is (get_d_in xs i 0 (rw long more)))
 
-    pub walk_more : {y : ℕ} → y ≡ at next x → Walked next root counts (i + 1) y
+    pub walk_more : {y : ℕ} → y ≡ at next x → Walked next root len (i + 1) y
     walk_more e =
         record {
           some = omega arith;
-          here = e ∙ ap (at next) w.here ∙ rw (add-one i) ((walk_way (at next) (at next root) (at counts 0)).on i (rw long more));
+          here = e ∙ ap (at next) w.here ∙ rw (add-one i) ((walk_way (at next) (at next root) len).on i (rw long more));
         }
 
 -- ---- members
 
-pub record MembersTurned (keys next counts : List ℕ) (i x : ℕ) (numbers ranks : List ℕ) : Type 0 where
-  pub walked : Walked next 256 counts i x
-  pub copied : MembersCopied keys (listed next 256 counts) i numbers ranks
+pub record MembersTurned (keys next : List ℕ) (len i x : ℕ) (numbers ranks : List ℕ) : Type 0 where
+  pub walked : Walked next 256 len i x
+  pub copied : MembersCopied keys (listed next 256 len) i numbers ranks
   pub numbers_long : length numbers ≡ 256
   pub ranks_long : length ranks ≡ 256
 
-module _ (keys next counts numbers ranks : List ℕ) where
-  pub members_none : {x : ℕ} → x ≡ at next 256 → length numbers ≡ 256 → length ranks ≡ 256 → MembersTurned keys next counts 0 x numbers ranks
+module _ (keys next : List ℕ) (len : ℕ) (numbers ranks : List ℕ) where
+  pub members_none : {x : ℕ} → x ≡ at next 256 → length numbers ≡ 256 → length ranks ≡ 256 → MembersTurned keys next len 0 x numbers ranks
   members_none e n r =
       record {
-        walked = walk_none next 256 counts e;
+        walked = walk_none next 256 len e;
         copied = record { number = λ j h. absurd (omega arith); rank = λ j h. absurd (omega arith) };
         numbers_long = n;
         ranks_long = r;
       }
 
-  module _ (i x : ℕ) (t : MembersTurned keys next counts i x numbers ranks) where
+  module _ (i x : ℕ) (t : MembersTurned keys next len i x numbers ranks) where
     abbrev ks : List ℕ
-    ks = listed next 256 counts
+    ks = listed next 256 len
 
-    module _ (d : Distinct ks 256) (more : i < at counts 0) where
+    module _ (d : Distinct ks 256) (more : i < len) where
       is : x ≡ get_or ks i 0
-      is = place_is next 256 counts i x t.walked more
+      is = place_is next 256 len i x t.walked more
 
       rank_more : (j : ℕ) → j < i + 1 → at (set ranks x i) (get_or ks j 0) ≡ j
       rank_more j h =
           ⊎_elim
           (λ (z : j ≡ i).
           ap (λ (y : ℕ). at (set ranks x i) (get_or ks y 0)) z ∙ ap (at (set ranks x i)) (sym is)
-          ∙ get_or-set_same ranks x i 0 (rw t.ranks_long (place_fits next 256 counts i x t.walked more d)) ∙ sym z)
+          ∙ get_or-set_same ranks x i 0 (rw t.ranks_long (place_fits next 256 len i x t.walked more d)) ∙ sym z)
           (λ (z : j ≢ i).
-          get_or-set_other ranks x (get_or ks j 0) i 0 (λ e. nth_apart ks j i 0 d.once (omega arith) (rw (long next 256 counts) more) (e ∙ is))
+          get_or-set_other ranks x (get_or ks j 0) i 0 (λ e. nth_apart ks j i 0 d.once (omega arith) (rw (long next 256 len) more) (e ∙ is))
           ∙ t.copied.rank j (omega arith))
           (same_or_not j i)
 
       pub members_more : {k y : ℕ} {numbers' ranks' : List ℕ} → k ≡ at keys x → numbers' ≡ set numbers i k → ranks' ≡ set ranks x i
-          → y ≡ at next x → MembersTurned keys next counts (i + 1) y numbers' ranks'
+          → y ≡ at next x → MembersTurned keys next len (i + 1) y numbers' ranks'
       members_more ek en er ey =
           record {
-            walked = walk_more next 256 counts i x t.walked more ey;
+            walked = walk_more next 256 len i x t.walked more ey;
             copied =
                 record {
                   number =
                       rw en
-                      (copied_more (at keys) ks i numbers t.copied.number (rw t.numbers_long (turn_fits next 256 counts i x t.walked more d))
+                      (copied_more (at keys) ks i numbers t.copied.number (rw t.numbers_long (turn_fits next 256 len i x t.walked more d))
                       (ek ∙ ap (at keys) is));
                   rank = rw er rank_more;
                 };
@@ -112,45 +112,45 @@ module _ (keys next counts numbers ranks : List ℕ) where
             ranks_long = rw er (simp length-set t.ranks_long);
           }
 
-    pub members_all : at counts 0 ≤ i → MembersCopied keys (listed next 256 counts) (length (listed next 256 counts)) numbers ranks
-    members_all e = let is : length ks ≡ i = omega (arith, long next 256 counts, t.walked.some) in rw is t.copied
+    pub members_all : len ≤ i → MembersCopied keys (listed next 256 len) (length (listed next 256 len)) numbers ranks
+    members_all e = let is : length ks ≡ i = omega (arith, long next 256 len, t.walked.some) in rw is t.copied
 
 -- ---- rounds
 
-pub record RoundsTurned (values key_index next counts ranks : List ℕ) (i x : ℕ) (owners scores : List ℕ) : Type 0 where
-  pub walked : Walked next 1024 counts i x
-  pub copied : RoundsCopied values key_index ranks (listed next 1024 counts) i owners scores
+pub record RoundsTurned (values key_index next : List ℕ) (len : ℕ) (ranks : List ℕ) (i x : ℕ) (owners scores : List ℕ) : Type 0 where
+  pub walked : Walked next 1024 len i x
+  pub copied : RoundsCopied values key_index ranks (listed next 1024 len) i owners scores
   pub owners_long : length owners ≡ 1024
   pub scores_long : length scores ≡ 1024
 
-module _ (values key_index next counts ranks owners scores : List ℕ) where
+module _ (values key_index next : List ℕ) (len : ℕ) (ranks owners scores : List ℕ) where
   pub rounds_none : {x : ℕ} → x ≡ at next 1024 → length owners ≡ 1024 → length scores ≡ 1024
-      → RoundsTurned values key_index next counts ranks 0 x owners scores
+      → RoundsTurned values key_index next len ranks 0 x owners scores
   rounds_none e o s =
       record {
-        walked = walk_none next 1024 counts e;
+        walked = walk_none next 1024 len e;
         copied = record { owner = λ j h. absurd (omega arith); score = λ j h. absurd (omega arith) };
         owners_long = o;
         scores_long = s;
       }
 
-  module _ (i x : ℕ) (t : RoundsTurned values key_index next counts ranks i x owners scores) where
+  module _ (i x : ℕ) (t : RoundsTurned values key_index next len ranks i x owners scores) where
     abbrev vs : List ℕ
-    vs = listed next 1024 counts
+    vs = listed next 1024 len
 
-    module _ (d : Distinct vs 1024) (more : i < at counts 0) where
+    module _ (d : Distinct vs 1024) (more : i < len) where
       few : i < 1024
-      few = turn_fits next 1024 counts i x t.walked more d
+      few = turn_fits next 1024 len i x t.walked more d
 
       round_is : x ≡ get_or vs i 0
-      round_is = place_is next 1024 counts i x t.walked more
+      round_is = place_is next 1024 len i x t.walked more
 
       pub rounds_more : {k r v y : ℕ} {owners' scores' : List ℕ} → k ≡ at key_index x → r ≡ at ranks k → v ≡ at values x
           → owners' ≡ set owners i r → scores' ≡ set scores i v → y ≡ at next x
-          → RoundsTurned values key_index next counts ranks (i + 1) y owners' scores'
+          → RoundsTurned values key_index next len ranks (i + 1) y owners' scores'
       rounds_more ek er ev eo es ey =
           record {
-            walked = walk_more next 1024 counts i x t.walked more ey;
+            walked = walk_more next 1024 len i x t.walked more ey;
             copied =
                 record {
                   owner =
@@ -163,6 +163,6 @@ module _ (values key_index next counts ranks owners scores : List ℕ) where
             scores_long = rw es (simp length-set t.scores_long);
           }
 
-    pub rounds_all : at counts 0 ≤ i
-        → RoundsCopied values key_index ranks (listed next 1024 counts) (length (listed next 1024 counts)) owners scores
-    rounds_all e = let is : length vs ≡ i = omega (arith, long next 1024 counts, t.walked.some) in rw is t.copied
+    pub rounds_all : len ≤ i
+        → RoundsCopied values key_index ranks (listed next 1024 len) (length (listed next 1024 len)) owners scores
+    rounds_all e = let is : length vs ≡ i = omega (arith, long next 1024 len, t.walked.some) in rw is t.copied

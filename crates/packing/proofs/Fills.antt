@@ -1,5 +1,5 @@
 -- The turns of `fill`: rounds are added one after the other, in the places from 0 on. Assumes nothing.
-use Prim.Native.Nat.{ℕ, ◌+◌, ◌≤◌, ◌<◌}
+use Prim.Native.Nat.{ℕ, ◌+◌, ◌<◌}
 use mathlib.Core.Path.{◌≡◌, refl, sym, ap, ◌∙◌, subst}
 use mathlib.Core.List.{List, [], ◌∷◌, ◌++◌, map}
 use native.Mathlib.Omega.{arith}
@@ -8,9 +8,10 @@ use Rattle.steps.specs.State.{Pair}
 use Rattle.links.specs.Route.{tally}
 use Rattle.links.specs.Places.{Places, order}
 use Rattle.links.specs.Stores.{spot}
+use Rattle.links.specs.declared.Counts.{Counts}
 use Rattle.links.proofs.Bare.{bare_order}
 use Rattle.links.proofs.Lists.{length_order}
-use Rattle.multimap.specs.Arrays.{Arrays}
+use Rattle.multimap.specs.declared.ListOrderedMultimap.{ListOrderedMultimap}
 use Rattle.multimap.specs.Map.{at, pair_at, pairs, rounds_of, members_of}
 use Rattle.multimap.specs.Changes.{with_round}
 use Rattle.multimap.proofs.Builds.{round_order, round_pairs, round_sound}
@@ -18,12 +19,12 @@ use Rattle.packing.specs.Building.{up_to, Fillable, Filled}
 use Rattle.packing.proofs.Lists.{up_more, map_more, length_up}
 use Rattle.packing.proofs.Seats.{spot_up, fresh_up}
 
-module _ (owners scores : List ℕ) (n : ℕ) (m : Arrays) (g : Fillable owners n m) where
+module _ (owners scores : List ℕ) (n : ℕ) (m : ListOrderedMultimap) (g : Fillable owners n m) where
   abbrev pair : ℕ → Pair
   pair j = record { key = at m.keys (at owners j); value = at scores j }
 
   no_rounds : order (rounds_of m) ≡ []
-  no_rounds = bare_order (rounds_of m) (ap (λ (cs : List ℕ). at cs 0) g.none)
+  no_rounds = bare_order (rounds_of m) (ap (λ (cs : Counts). cs.len) g.none)
 
   pub fill_none : Filled m owners scores 0 m
   fill_none =
@@ -31,20 +32,20 @@ module _ (owners scores : List ℕ) (n : ℕ) (m : Arrays) (g : Fillable owners 
         sound = g.sound;
         pairs = ap (map (pair_at m)) no_rounds;
         places = no_rounds;
-        fresh = ap (λ (cs : List ℕ). at cs 1) g.none;
+        fresh = ap (λ (cs : Counts). cs.fresh) g.none;
         keys = refl;
         members = refl;
         limits = refl;
       }
 
-  module _ (j : ℕ) (r : Arrays) (f : Filled m owners scores j r) (more : j < n) where
-    held : at r.rounds 0 ≡ j
+  module _ (j : ℕ) (r : ListOrderedMultimap) (f : Filled m owners scores j r) (more : j < n) where
+    held : r.rounds.len ≡ j
     held = sym (length_order (rounds_of r)) ∙ ap length f.places ∙ length_up j
 
     here : 0 < tally (at owners j) (order (members_of r))
     here = subst (λ (l : Places). 0 < tally (at owners j) (order l)) (sym f.members) (g.owner j more)
 
-    room : at r.rounds 0 < 1024
+    room : r.rounds.len < 1024
     room = omega (arith, held, g.few)
 
     pub fill_more : Filled m owners scores (j + 1) (with_round r 0 (at owners j) (at scores j))
@@ -69,20 +70,10 @@ module _ (owners scores : List ℕ) (n : ℕ) (m : Arrays) (g : Fillable owners 
           limits = f.limits;
         }
 
--- the loop: it begins, goes on and ends
-abbrev pub Filling : Arrays → List ℕ → List ℕ → ℕ → ℕ → Arrays → Type 0
-Filling m owners scores n j r = (j ≤ n) × Filled m owners scores j r
-
-module _ (owners scores : List ℕ) (n : ℕ) (m : Arrays) (g : Fillable owners n m) where
-  pub filling_none : Filling m owners scores n 0 m
-  filling_none = (omega arith, fill_none owners scores n m g)
-
-  pub filling_more : (j : ℕ) (r : Arrays) → Filling m owners scores n j r → j < n → {k v : ℕ} → k ≡ at owners j → v ≡ at scores j
-      → {o : Arrays} → o ≡ with_round r 0 k v → Filling m owners scores n (j + 1) o
-  filling_more j r f more {k} {v} ek ev e =
-      let is = e ∙ ap (λ (x : ℕ). with_round r 0 x v) ek ∙ ap (λ (x : ℕ). with_round r 0 (at owners j) x) ev in
-      (omega arith, subst (Filled m owners scores (j + 1)) (sym is) (fill_more owners scores n m g j r f.1 more))
-
-pub filling_all : (m : Arrays) (owners scores : List ℕ) (n j : ℕ) (r : Arrays) → Filling m owners scores n j r → n ≤ j
-    → Filled m owners scores n r
-filling_all m owners scores n j r f e = let is : j ≡ n = omega (arith, f.0) in subst (λ (x : ℕ). Filled m owners scores x r) is f.1
+-- the loop goes on
+pub fills_more : (owners scores : List ℕ) (n : ℕ) (m : ListOrderedMultimap) → Fillable owners n m
+    → (j : ℕ) (r : ListOrderedMultimap) → Filled m owners scores j r → j < n → {k v : ℕ} → k ≡ at owners j → v ≡ at scores j
+    → {o : ListOrderedMultimap} → o ≡ with_round r 0 k v → Filled m owners scores (j + 1) o
+fills_more owners scores n m g j r f more {k} {v} ek ev e =
+    let is = e ∙ ap (λ (x : ℕ). with_round r 0 x v) ek ∙ ap (λ (x : ℕ). with_round r 0 (at owners j) x) ev in
+    subst (Filled m owners scores (j + 1)) (sym is) (fill_more owners scores n m g j r f more)

@@ -1,22 +1,26 @@
 -- The step of `pack_to`: when it is refused; and that a map that was copied out and taken in again is well-linked, stands for what it stood
 -- for, and has its places in order. Assumes nothing.
-use Prim.Native.Nat.{ℕ, ◌<◌}
+use Prim.Native.Nat.{ℕ, ◌≤◌, ◌<◌}
 use mathlib.Core.Path.{◌≡◌, refl, sym, ap, ◌∙◌, subst}
-use mathlib.Core.Bool.{true, false, ◌||◌}
-use mathlib.Core.List.{List, [], map}
+use mathlib.Core.Bool.{true, false, ◌||◌, or-true}
+use mathlib.Core.Logic.{◌⊎◌, ⊎_elim}
+use borrow.Author.Tests.{lt-ltb, le-ltb}
+use lib.Seq.{length-take-le}
+use Rattle.std.proofs.lemmas.List.{get_or-take}
+use mathlib.Core.List.{List, map}
 use native.Mathlib.Omega.{arith}
 use lib.Dec.{ltb}
-use lib.ListN.{length, get_or}
+use lib.ListN.{length, get_or, take}
 use Rattle.steps.specs.State.{State}
 use Rattle.steps.specs.Call.{pack_to, refused, done}
-use Rattle.steps.specs.Coded.{coded}
 use Rattle.steps.specs.Step.{step, checks, act, say}
-use Rattle.steps.specs.Told.{Told}
+use Rattle.steps.specs.Trace.{Does}
 use Rattle.steps.proofs.Doing.{does_refuse, does_pack}
 use Rattle.links.specs.Route.{tally}
 use Rattle.links.specs.Places.{Places, order, Linked}
 use Rattle.links.proofs.Lists.{length_order, in_array, order_distinct}
-use Rattle.multimap.specs.Arrays.{Arrays, Sized, arrays}
+use Rattle.multimap.specs.declared.ListOrderedMultimap.{ListOrderedMultimap}
+use Rattle.multimap.specs.Sized.{Sized}
 use Rattle.multimap.specs.Map.{at, pair_at, pairs, members, rounds_of, members_of, limits_of, state_of}
 use Rattle.multimap.specs.WellLinked.{WellLinked, linked}
 use Rattle.multimap.proofs.Stores.{tally_mem, length_pairs, length_members}
@@ -49,42 +53,33 @@ module _ (a b : ℕ) (s : State) where
   unfolding step checks act
   step_done e f h = rw (e, f, h)
 
-module _ (a b : ℕ) (m : Arrays) (g : WellLinked m) (ans : List ℕ) where
-  told_refused : (n : ℕ) → step (pack_to a b) (state_of m) ≡ (say (refused n), state_of m) → ans ≡ coded (refused n)
-      → Told linked (pack_to a b) m m [] [] ans
-  told_refused n e w =
-      record { outcome = say (refused n); does = does_refuse linked (pack_to a b) m n g e; out_is = refl; out2_is = refl; ans_is = w }
+module _ (a b : ℕ) (m : ListOrderedMultimap) (g : WellLinked m) where
+  pub few_members : a < m.members.len → Does linked (pack_to a b) m (say (refused 4)) m
+  few_members h = does_refuse linked (pack_to a b) m 4 g (step_members a b (state_of m) (lt-ltb a (length (members m)) (rw (length_members m) h)))
 
-  pub told_members : ltb a (at m.members 0) ≡ true → ans ≡ coded (refused 4) → Told linked (pack_to a b) m m [] [] ans
-  told_members h = told_refused 4 (step_members a b (state_of m) (ap (ltb a) (length_members m) ∙ h))
-
-  module _ (enough : ltb a (at m.members 0) ≡ false) where
+  module _ (enough : m.members.len ≤ a) where
     fit_members : ltb a (length (members m)) ≡ false
-    fit_members = ap (ltb a) (length_members m) ∙ enough
+    fit_members = le-ltb a (length (members m)) (rw (length_members m) enough)
 
-    pub told_rounds : ltb b (at m.rounds 0) ≡ true → ans ≡ coded (refused 5) → Told linked (pack_to a b) m m [] [] ans
-    told_rounds h = told_refused 5 (step_rounds a b (state_of m) fit_members (ap (ltb b) (length_pairs m) ∙ h))
+    pub few_rounds : b < m.rounds.len → Does linked (pack_to a b) m (say (refused 5)) m
+    few_rounds h = does_refuse linked (pack_to a b) m 5 g (step_rounds a b (state_of m) fit_members (lt-ltb b (length (pairs m)) (rw (length_pairs m) h)))
 
-    module _ (room : ltb b (at m.rounds 0) ≡ false) where
+    module _ (room : m.rounds.len ≤ b) where
       fit_rounds : ltb b (length (pairs m)) ≡ false
-      fit_rounds = ap (ltb b) (length_pairs m) ∙ room
+      fit_rounds = le-ltb b (length (pairs m)) (rw (length_pairs m) room)
 
-      pub told_above : (ltb (limits_of m).members a || ltb (limits_of m).rounds b) ≡ true → ans ≡ coded (refused 6)
-          → Told linked (pack_to a b) m m [] [] ans
-      told_above h = told_refused 6 (step_above a b (state_of m) fit_members fit_rounds h)
+      pub above : (m.members.limit < a) ⊎ (m.rounds.limit < b) → Does linked (pack_to a b) m (say (refused 6)) m
+      above h =
+          does_refuse linked (pack_to a b) m 6 g
+          (step_above a b (state_of m) fit_members fit_rounds
+          (⊎_elim (λ (l : m.members.limit < a). rw (lt-ltb m.members.limit a l))
+          (λ (l : m.rounds.limit < b). rw (lt-ltb m.rounds.limit b l) (or-true (ltb m.members.limit a))) h))
 
-      pub told_packed : (ltb (limits_of m).members a || ltb (limits_of m).rounds b) ≡ false → {r : Arrays} → Repacked m r → ans ≡ coded done
-          → Told linked (pack_to a b) m r [] [] ans
-      told_packed h {r} p w =
-          record {
-            outcome = say done;
-            does =
-                does_pack linked (pack_to a b) m (say done) r refl (step_done a b (state_of m) fit_members fit_rounds h)
-                p.state p.linked p.packed;
-            out_is = refl;
-            out2_is = refl;
-            ans_is = w;
-          }
+      pub packed : a ≤ m.members.limit → b ≤ m.rounds.limit → {r : ListOrderedMultimap} → Repacked m r → Does linked (pack_to a b) m (say done) r
+      packed h k {r} p =
+          does_pack linked (pack_to a b) m (say done) r refl
+          (step_done a b (state_of m) fit_members fit_rounds (rw (le-ltb m.members.limit a h, le-ltb m.rounds.limit b k)))
+          p.state p.linked p.packed
 
 -- ---- what it leads to
 
@@ -97,12 +92,10 @@ in_order : (l : Places) (n : ℕ) → order l ≡ up_to n → (i : ℕ) → i < 
 in_order l n e i h = ap (λ (q : List ℕ). get_or q i 0) e ∙ nth_up n i (omega (arith, length_order l, ap length e, length_up n))
 
 -- r with another T
-abbrev pub retaken : Arrays → List ℕ → Arrays
-retaken r t =
-    arrays r.keys r.lengths r.next_key r.previous_key r.values r.key_index r.next_value r.previous_value
-    r.next_index r.previous_index r.index r.members r.rounds t
+abbrev pub retaken : ListOrderedMultimap → List ℕ → ListOrderedMultimap
+retaken r t = record r { taken = t }
 
-retaken_sized : (r : Arrays) (t : List ℕ) → length t ≡ 16 → Sized r → Sized (retaken r t)
+retaken_sized : (r : ListOrderedMultimap) (t : List ℕ) → length t ≡ 16 → Sized r → Sized (retaken r t)
 retaken_sized r t n s =
     record {
       keys = s.keys;
@@ -116,12 +109,10 @@ retaken_sized r t n s =
       next_index = s.next_index;
       previous_index = s.previous_index;
       index = s.index;
-      members = s.members;
-      rounds = s.rounds;
       taken = n;
     }
 
-module _ (m : Arrays) (g : WellLinked m) where
+module _ (m : ListOrderedMultimap) (g : WellLinked m) where
   abbrev ks : List ℕ
   ks = order (members_of m)
 
@@ -134,9 +125,9 @@ module _ (m : Arrays) (g : WellLinked m) where
   pub rounds_distinct : Distinct (order (rounds_of m)) 1024
   rounds_distinct = distinct (rounds_of m) g.chained.rounds
 
-  pub none_seated : (numbers : List ℕ) {o : Arrays} → o ≡ cleared m → Seated numbers (limits_of o) 0 o
+  pub none_seated : (numbers : List ℕ) {o : ListOrderedMultimap} → o ≡ cleared m → Seated numbers (limits_of o) 0 o
   none_seated numbers e =
-      subst (λ (o : Arrays). Seated numbers (limits_of o) 0 o) (sym e)
+      subst (λ (o : ListOrderedMultimap). Seated numbers (limits_of o) 0 o) (sym e)
       (record {
         sound = linked_sound (cleared m) (cleared_map m g.sized g.limited.allowed g.taken).0;
         members = refl;
@@ -147,7 +138,7 @@ module _ (m : Arrays) (g : WellLinked m) where
       })
 
   module _ (numbers ranks : List ℕ) (a : MembersCopied m.keys (order (members_of m)) (length (order (members_of m))) numbers ranks) where
-    pub numbers_apart : Apart numbers (at m.members 0)
+    pub numbers_apart : Apart numbers m.members.len
     numbers_apart =
         record {
           few = omega (arith, members_distinct.few, length_order (members_of m));
@@ -170,7 +161,7 @@ module _ (m : Arrays) (g : WellLinked m) where
 
     module _ (owners scores : List ℕ)
         (b : RoundsCopied m.values m.key_index ranks (order (rounds_of m)) (length (order (rounds_of m))) owners scores)
-        (s : Arrays) (t : Seated numbers (limits_of m) (at m.members 0) s) where
+        (s : ListOrderedMultimap) (t : Seated numbers (limits_of m) m.members.len s) where
       -- the member place of the j-th round
       abbrev old : ℕ → ℕ
       old j = at m.key_index (get_or vs j 0)
@@ -178,31 +169,31 @@ module _ (m : Arrays) (g : WellLinked m) where
       known : (j : ℕ) → j < length vs → 0 < tally (old j) ks
       known j h = g.chained.keys (get_or vs j 0) (get_d_in vs j 0 h)
 
-      low : (j : ℕ) → j < length vs → at owners j < at m.members 0
+      low : (j : ℕ) → j < length vs → at owners j < m.members.len
       low j h = rw (b.owner j h) (omega (arith, (rank_is (old j) (known j h)).0, length_order (members_of m)))
 
-      pub fillable : Fillable owners (at m.rounds 0) s
+      pub fillable : Fillable owners m.rounds.len s
       fillable =
           record {
             sound = t.sound;
             none = t.none;
             few = omega (arith, rounds_distinct.few, length_order (rounds_of m));
-            owner = λ j h. rw t.places (below_in (at m.members 0) (at owners j) (low j (rw (length_order (rounds_of m)) h)));
+            owner = λ j h. rw t.places (below_in m.members.len (at owners j) (low j (rw (length_order (rounds_of m)) h)));
           }
 
-      module _ (r : Arrays) (f : Filled s owners scores (at m.rounds 0) r) where
+      module _ (r : ListOrderedMultimap) (f : Filled s owners scores m.rounds.len r) where
         same_members : members r ≡ members m
         same_members =
             ap (λ (keys : List ℕ). map (at keys) (order (members_of r))) f.keys
             ∙ ap (λ (l : Places). map (at s.keys) (order l)) f.members
             ∙ t.members
-            ∙ map_up (at numbers) (at m.keys) (at m.members 0) ks (length_order (members_of m))
+            ∙ map_up (at numbers) (at m.keys) m.members.len ks (length_order (members_of m))
             (λ i h. a.number i (rw (length_order (members_of m)) h))
 
         key_is : (j : ℕ) → j < length vs → at s.keys (at owners j) ≡ at m.keys (old j)
         key_is j h =
             let i : at owners j < length ks = rw (length_order (members_of m)) (low j h) in
-            number numbers (at m.members 0) s t (at owners j) (low j h)
+            number numbers m.members.len s t (at owners j) (low j h)
             ∙ a.number (at owners j) i
             ∙ ap (λ (x : ℕ). at m.keys (get_or ks x 0)) (b.owner j h)
             ∙ ap (at m.keys) (rank_is (old j) (known j h)).1
@@ -210,11 +201,11 @@ module _ (m : Arrays) (g : WellLinked m) where
         same_pairs : pairs r ≡ pairs m
         same_pairs =
             f.pairs
-            ∙ map_up (λ j. record { key = at s.keys (at owners j); value = at scores j }) (pair_at m) (at m.rounds 0) vs
+            ∙ map_up (λ j. record { key = at s.keys (at owners j); value = at scores j }) (pair_at m) m.rounds.len vs
             (length_order (rounds_of m))
             (λ j h. let i : j < length vs = rw (length_order (rounds_of m)) h in rw (key_is j i, b.score j i))
 
-        abbrev p : Arrays
+        abbrev p : ListOrderedMultimap
         p = retaken r m.taken
 
         same_state : state_of p ≡ state_of m
@@ -229,27 +220,63 @@ module _ (m : Arrays) (g : WellLinked m) where
                   same_state;
               state = same_state;
               packed = (
-                in_order (rounds_of r) (at m.rounds 0) f.places,
-                in_order (members_of r) (at m.members 0) (ap order f.members ∙ t.places),
+                in_order (rounds_of r) m.rounds.len f.places,
+                in_order (members_of r) m.members.len (ap order f.members ∙ t.places),
               );
             }
 
 -- ---- as `pack` goes on: n members and l rounds are held
 
-module _ (m : Arrays) (g : WellLinked m) {numbers ranks : List ℕ}
-    (a : MembersCopied m.keys (order (members_of m)) (length (order (members_of m))) numbers ranks)
-    {n : ℕ} (en : n ≡ at m.members 0) where
-  pub seat_ready : {o : Arrays} → o ≡ cleared m → Seated numbers (limits_of o) 0 o × Apart numbers n
-  seat_ready e = (none_seated m g numbers e, rw en (numbers_apart m g numbers ranks a))
+module _ (m : ListOrderedMultimap) (g : WellLinked m) {numbers ranks : List ℕ} (long : length numbers ≡ 256)
+    (a : MembersCopied m.keys (order (members_of m)) (length (order (members_of m))) numbers ranks) where
+  abbrev n : ℕ
+  n = m.members.len
 
-  module _ {owners scores : List ℕ}
+  front_members : MembersCopied m.keys (order (members_of m)) (length (order (members_of m))) (take m.members.len numbers) ranks
+  front_members = record { number = λ i h. get_or-take n numbers i 0 (rw (length_order (members_of m)) at h) ∙ a.number i h; rank = a.rank }
+
+  numbers_long : length (take m.members.len numbers) ≡ m.members.len
+  numbers_long = length-take-le n numbers (omega (arith, long, (members_distinct m g).few, length_order (members_of m)))
+
+  pub seat_ready : {o : ListOrderedMultimap} → o ≡ cleared m
+      → Seated (take m.members.len numbers) (limits_of o) 0 o × Apart (take m.members.len numbers) (length (take m.members.len numbers))
+  seat_ready e = (none_seated m g (take n numbers) e, rw numbers_long (numbers_apart m g (take n numbers) ranks front_members))
+
+  module _ {owners scores : List ℕ} (long_owners : length owners ≡ 1024) (long_scores : length scores ≡ 1024)
       (b : RoundsCopied m.values m.key_index ranks (order (rounds_of m)) (length (order (rounds_of m))) owners scores)
-      {l : ℕ} (el : l ≡ at m.rounds 0) {o s : Arrays} (e : o ≡ cleared m) (t : Seated numbers (limits_of o) n s) where
-    seated : Seated numbers (limits_of m) (at m.members 0) s
-    seated = subst (λ (i : ℕ). Seated numbers (limits_of m) i s) en (subst (λ (o : Arrays). Seated numbers (limits_of o) n s) e t)
+      {o s : ListOrderedMultimap} (e : o ≡ cleared m) (t : Seated (take m.members.len numbers) (limits_of o) (length (take m.members.len numbers)) s) where
+    abbrev l : ℕ
+    l = m.rounds.len
 
-    pub fill_ready : Fillable owners l s
-    fill_ready = rw el (fillable m g numbers ranks a owners scores b s seated)
+    front_rounds : RoundsCopied m.values m.key_index ranks (order (rounds_of m)) (length (order (rounds_of m))) (take m.rounds.len owners) (take m.rounds.len scores)
+    front_rounds =
+        record {
+          owner = λ i h. get_or-take l owners i 0 (rw (length_order (rounds_of m)) at h) ∙ b.owner i h;
+          score = λ i h. get_or-take l scores i 0 (rw (length_order (rounds_of m)) at h) ∙ b.score i h;
+        }
 
-    pub packs : {r : Arrays} → Filled s owners scores l r → Repacked m (retaken r m.taken)
-    packs {r} f = repacked m g numbers ranks a owners scores b s seated r (subst (λ (i : ℕ). Filled s owners scores i r) el f)
+    fits : m.rounds.len ≤ 1024
+    fits = omega (arith, (rounds_distinct m g).few, length_order (rounds_of m))
+
+    owners_long : length (take m.rounds.len owners) ≡ m.rounds.len
+    owners_long = length-take-le l owners (omega (arith, long_owners, fits))
+
+    scores_long : length (take m.rounds.len scores) ≡ m.rounds.len
+    scores_long = length-take-le l scores (omega (arith, long_scores, fits))
+
+    seated : Seated (take m.members.len numbers) (limits_of m) m.members.len s
+    seated =
+        subst (λ (i : ℕ). Seated (take n numbers) (limits_of m) i s) numbers_long
+        (subst (λ (o : ListOrderedMultimap). Seated (take n numbers) (limits_of o) (length (take n numbers)) s) e t)
+
+    pub fill_ready : Fillable (take m.rounds.len owners) (length (take m.rounds.len owners)) s × (length (take m.rounds.len scores) ≡ length (take m.rounds.len owners))
+    fill_ready = (
+      rw owners_long (fillable m g (take n numbers) ranks front_members (take l owners) (take l scores) front_rounds s seated),
+      scores_long ∙ sym owners_long,
+    )
+
+    pub packs : {r : ListOrderedMultimap} → Filled s (take m.rounds.len owners) (take m.rounds.len scores) (length (take m.rounds.len owners)) r
+        → Repacked m (retaken r m.taken)
+    packs {r} f =
+        repacked m g (take n numbers) ranks front_members (take l owners) (take l scores) front_rounds s seated r
+        (subst (λ (i : ℕ). Filled s (take l owners) (take l scores) i r) owners_long f)

@@ -1,35 +1,42 @@
--- A map's arrays with no place in use, and with all in them 0.
-use Rattle.std.specs.Prelude.{ℕ, List, [], ◌∷◌, set, replicate}
-use Rattle.links.specs.Stores.{at}
+-- A map with no place in use.
+use Rattle.std.specs.Prelude.{ℕ, replicate, set}
+use Rattle.links.specs.declared.Counts.{Counts}
 use Rattle.index.specs.Table.{empty_index}
-use Rattle.multimap.specs.Arrays.{Arrays, arrays}
+use Rattle.multimap.specs.declared.ListOrderedMultimap.{ListOrderedMultimap}
 
 -- The counts of a list with no place in use, and its limit.
-abbrev pub unused : ℕ → List ℕ
-unused limit = 0 ∷ 0 ∷ 0 ∷ limit ∷ []
+abbrev pub unused : ℕ → Counts
+unused limit = record { len = 0; fresh = 0; free = 0; limit = limit }
 
--- The end cells lead to themselves, no place is in use or ever was, and the index is as it begins. The limits stay.
-abbrev pub cleared : Arrays → Arrays
+-- The end cells lead to themselves, no place is in use or ever was, and the index is as it begins. The limits stay, and what else there is.
+abbrev pub cleared : ListOrderedMultimap → ListOrderedMultimap
 cleared a =
-    record {
-      keys = a.keys;
-      lengths = a.lengths;
+    record a {
       next_key = set a.next_key 256 256;
       previous_key = set a.previous_key 256 256;
-      values = a.values;
-      key_index = a.key_index;
       next_value = set a.next_value 1024 1024;
       previous_value = set a.previous_value 1024 1024;
-      next_index = a.next_index;
-      previous_index = a.previous_index;
       index = empty_index;
-      members = unused (at a.members 3);
-      rounds = unused (at a.rounds 3);
-      taken = a.taken;
+      members = unused a.members.limit;
+      rounds = unused a.rounds.limit;
     }
 
--- Each array is 0 throughout but for the limits.
-abbrev pub zeros : ℕ → ℕ → Arrays
-zeros keys_limit values_limit =
-    arrays (replicate 256 0) (replicate 256 0) (replicate 257 0) (replicate 257 0) (replicate 1024 0) (replicate 1024 0) (replicate 1025 0)
-    (replicate 1025 0) (replicate 1280 0) (replicate 1280 0) empty_index (unused keys_limit) (unused values_limit) (replicate 16 0)
+-- All arrays hold zeros, with these limits.
+abbrev pub zeros : ℕ → ℕ → ListOrderedMultimap
+zeros members rounds =
+    record {
+      keys = replicate 256 0;
+      lengths = replicate 256 0;
+      next_key = replicate 257 0;
+      previous_key = replicate 257 0;
+      values = replicate 1024 0;
+      key_index = replicate 1024 0;
+      next_value = replicate 1025 0;
+      previous_value = replicate 1025 0;
+      next_index = replicate 1280 0;
+      previous_index = replicate 1280 0;
+      index = empty_index;
+      members = unused members;
+      rounds = unused rounds;
+      taken = replicate 16 0;
+    }

@@ -3,88 +3,32 @@ use Prim.Native.Nat.{ℕ, suc, ◌+◌, ◌-◌, ◌≤◌, ◌<◌}
 use mathlib.Core.Path.{◌≡◌, refl, sym, ap, ◌∙◌}
 use mathlib.Core.Bool.{Bool, true, false, cond, ◌&&◌, and-false}
 use mathlib.Core.Logic.{⊎_elim}
-use mathlib.Core.List.{List, [], ◌∷◌, map}
-use mathlib.Core.Option.{Option, none, some}
+use mathlib.Core.List.{List, [], ◌∷◌}
+use Rattle.std.specs.Prelude.{Option, Some, None}
+use Rattle.std.specs.Char.{is_ascii_digit}
+use Rattle.std.specs.List.{list_all}
 use native.Mathlib.Omega.{arith}
 use native.Mathlib.Numerals.{add-one}
-use borrow.Author.Tests.{eq-eqb, ne_eqb, eqb-true, eqb-false, le-leb, lt-leb}
+use borrow.Author.Tests.{ne_eqb, eqb-true, eqb-false, le-leb, lt-leb}
 use native.Mathlib.Nat.{eq-or-lt_of_le}
 use lib.Dec.{eqb, leb}
 use lib.Seq.{take-length}
 use lib.ListN.{length, get_or, take, drop}
-use Rattle.parsing.specs.Line.{adds, inserts, removes, keeps, bad, all, is_digit, is_mark, mark_of, number_of, onto, fields, alone, with_one, with_two, of_numbers, marked, fielded, form_of, line_of}
+use Rattle.parsing.specs.Line.{adds, inserts, bad, number_of, onto, fields, alone, with_one, with_two, of_numbers, fielded, form_of, line_of}
 use Rattle.parsing.specs.Split.{gap}
-
-pub alone_bad : (c : ℕ) → (c ≡ 102 → ⊥) → (c ≡ 98 → ⊥) → (c ≡ 108 → ⊥) → (c ≡ 109 → ⊥) → (c ≡ 107 → ⊥) → bad ≡ alone c
-alone_bad c p q r s t = rw (ne_eqb c 102 p, ne_eqb c 98 q, ne_eqb c 108 r, ne_eqb c 109 s, ne_eqb c 107 t)
-
--- ---- a letter and a field
-
-module _ (c : ℕ) (x : List ℕ) where
-  pub one_removes : (k : ℕ) → c ≡ 114 → some k ≡ number_of x → removes k ≡ with_one c x
-  one_removes k e n = rw (eq-eqb c 114 e, ← n)
-
-  pub one_no : c ≡ 114 → none ≡ number_of x → bad ≡ with_one c x
-  one_no e n = rw (eq-eqb c 114 e, ← n)
-
-  pub one_other : (c ≡ 114 → ⊥) → (c ≡ 107 → ⊥) → bad ≡ with_one c x
-  one_other e f = rw (ne_eqb c 114 e, ne_eqb c 107 f)
-
-  marks_of : (c ≡ 114 → ⊥) → c ≡ 107 → with_one c x ≡ marked x
-  marks_of e f = rw (ne_eqb c 114 e, eq-eqb c 107 f)
-
-no_marks : (x : List ℕ) → length x ≡ 0 → bad ≡ marked x
-no_marks [] e = refl
-no_marks (b ∷ bs) e = absurd (omega arith)
-
-good_marks : (x : List ℕ) → (length x ≡ 0 → ⊥) → all is_mark x ≡ true → keeps (map mark_of x) ≡ marked x
-good_marks [] e t = absurd (e refl)
-good_marks (b ∷ bs) e t = rw t
-
-bad_marks : (x : List ℕ) → all is_mark x ≡ false → bad ≡ marked x
-bad_marks [] t = refl
-bad_marks (b ∷ bs) t = rw t
-
-module _ (c : ℕ) (x : List ℕ) (e : c ≡ 114 → ⊥) (f : c ≡ 107) where
-  pub one_empty : length x ≡ 0 → bad ≡ with_one c x
-  one_empty z = no_marks x z ∙ sym (marks_of c x e f)
-
-  pub one_marks : (length x ≡ 0 → ⊥) → all is_mark x ≡ true → keeps (map mark_of x) ≡ with_one c x
-  one_marks z t = good_marks x z t ∙ sym (marks_of c x e f)
-
-  pub one_bad : all is_mark x ≡ false → bad ≡ with_one c x
-  one_bad t = bad_marks x t ∙ sym (marks_of c x e f)
-
--- ---- a letter and two fields
+use Rattle.parsing.proofs.Gaps.{gap_le}
 
 same : {A : Type 0} (a b : Bool) (x : A) → x ≡ cond a x (cond b x x)
 same true b x = refl
 same false true x = refl
 same false false x = refl
 
-neither : (n : Option ℕ) (a b : Bool) → bad ≡ cond a (of_numbers adds n none) (cond b (of_numbers inserts n none) bad)
-neither none a b = same a b bad
-neither (some k) a b = same a b bad
+neither : (n : Option ℕ) (a b : Bool) → bad ≡ cond a (of_numbers adds n None) (cond b (of_numbers inserts n None) bad)
+neither None a b = same a b bad
+neither (Some k) a b = same a b bad
 
-module _ (c : ℕ) (x y : List ℕ) where
-  pub two_first : none ≡ number_of x → bad ≡ with_two c x y
-  two_first n = rw (← n) (same (eqb c 97) (eqb c 105) bad)
-
-  pub two_second : (k : ℕ) → some k ≡ number_of x → none ≡ number_of y → bad ≡ with_two c x y
-  two_second k m n = rw (← m, ← n) (same (eqb c 97) (eqb c 105) bad)
-
-  module _ (k v : ℕ) (m : some k ≡ number_of x) (n : some v ≡ number_of y) where
-    pub two_adds : c ≡ 97 → adds k v ≡ with_two c x y
-    two_adds e = rw (eq-eqb c 97 e, ← m, ← n)
-
-    pub two_inserts : c ≡ 105 → inserts k v ≡ with_two c x y
-    two_inserts e = rw (ne_eqb c 97 (omega arith), eq-eqb c 105 e, ← m, ← n)
-
-  pub two_other : (c ≡ 97 → ⊥) → (c ≡ 105 → ⊥) → bad ≡ with_two c x y
-  two_other e f = rw (ne_eqb c 97 e, ne_eqb c 105 f)
-
-  no_second : none ≡ number_of y → with_two c x y ≡ bad
-  no_second n = rw (← n) (sym (neither (number_of x) (eqb c 97) (eqb c 105)))
+no_second : (c : ℕ) (x y : List ℕ) → None ≡ number_of y → with_two c x y ≡ bad
+no_second c x y n = rw (← n) (sym (neither (number_of x) (eqb c 97) (eqb c 105)))
 
 -- ---- fields
 
@@ -111,27 +55,18 @@ unfolding gap fields
 fields_some [] e = absurd (omega arith)
 fields_some (b ∷ bs) e = a_space b bs (eqb b 32) e (fields_some bs)
 
-gap_when : (b : ℕ) (bs : List ℕ) (t : Bool) → gap 32 bs ≤ length bs → cond t 0 (suc (gap 32 bs)) ≤ suc (length bs)
-gap_when b bs true h = omega arith
-gap_when b bs false h = omega arith
-
-pub gap_le : (s : List ℕ) → gap 32 s ≤ length s
-unfolding gap
-gap_le [] = omega arith
-gap_le (b ∷ bs) = gap_when b bs (eqb b 32) (gap_le bs)
-
 digit_when : (b : ℕ) (bs : List ℕ) (t : Bool) → eqb b 32 ≡ t → cond t 0 (suc (gap 32 bs)) < suc (length bs)
-    → (gap 32 bs < length bs → all is_digit bs ≡ false) → all is_digit (b ∷ bs) ≡ false
+    → (gap 32 bs < length bs → list_all is_ascii_digit bs ≡ false) → list_all is_ascii_digit (b ∷ bs) ≡ false
 digit_when b bs true i e ih = let j = eqb-true b 32 i in rw (lt-leb 48 b (omega (arith, j)))
-digit_when b bs false i e ih = ap (λ (t : Bool). is_digit b && t) (ih (omega arith)) ∙ and-false (is_digit b)
+digit_when b bs false i e ih = ap (λ (t : Bool). is_ascii_digit b && t) (ih (omega arith)) ∙ and-false (is_ascii_digit b)
 
 -- what has a space is no number
-space_digits : (s : List ℕ) → gap 32 s < length s → all is_digit s ≡ false
+space_digits : (s : List ℕ) → gap 32 s < length s → list_all is_ascii_digit s ≡ false
 unfolding gap
 space_digits [] e = absurd (omega arith)
 space_digits (b ∷ bs) e = digit_when b bs (eqb b 32) refl e (space_digits bs)
 
-number_space : (s : List ℕ) → gap 32 s < length s → none ≡ number_of s
+number_space : (s : List ℕ) → gap 32 s < length s → None ≡ number_of s
 number_space [] e = refl
 number_space (b ∷ bs) e = rw (space_digits (b ∷ bs) e)
 
@@ -143,12 +78,12 @@ less a b h e = ⊎_elim (λ (i : a ≡ b). absurd (e i)) (λ (i : a < b). i) (eq
 -- two fields and more after a letter are no form
 more_fields : (c : ℕ) (x y z : List ℕ) (t : Bool) → eqb (gap 32 z) (length z) ≡ t → fielded c (x ∷ (y ∷ fields z)) ≡ bad
 more_fields c x y z true e = rw (fields_none z (eqb-true (gap 32 z) (length z) e))
-more_fields c x y z false e = rw (fields_some z (less (gap 32 z) (length z) (gap_le z) (eqb-false (gap 32 z) (length z) e)))
+more_fields c x y z false e = rw (fields_some z (less (gap 32 z) (length z) (gap_le 32 z) (eqb-false (gap 32 z) (length z) e)))
 
 second_field : (c : ℕ) (x y : List ℕ) (t : Bool) → eqb (gap 32 y) (length y) ≡ t → with_two c x y ≡ fielded c (x ∷ fields y)
 second_field c x y true e = rw (fields_none y (eqb-true (gap 32 y) (length y) e))
 second_field c x y false e =
-    let h = less (gap 32 y) (length y) (gap_le y) (eqb-false (gap 32 y) (length y) e) in
+    let h = less (gap 32 y) (length y) (gap_le 32 y) (eqb-false (gap 32 y) (length y) e) in
     let z = drop (suc (gap 32 y)) y in
     no_second c x y (number_space y h) ∙ sym (more_fields c x (take (gap 32 y) y) z (eqb (gap 32 z) (length z)) refl) ∙ rw (fields_some y h)
 

@@ -1,6 +1,7 @@
--- What a line of the calls program asks (document 01, module 8).
-use Rattle.std.specs.Prelude.{ℕ, ◌+◌, ◌*◌, ◌-◌, ◌^◌, Bool, true, cond, ◌&&◌, ◌||◌, List, [], ◌∷◌, map, eqb, leb, ltb, length}
-use Rattle.std.proofs.Math.Option.{Option, none, some}
+-- What a line of the calls program asks.
+use Rattle.std.specs.Prelude.{ℕ, ◌+◌, ◌*◌, ◌-◌, ◌^◌, Bool, cond, ◌&&◌, ◌||◌, List, [], ◌∷◌, map, eqb, leb, ltb, length, Option, Some, None}
+use Rattle.std.specs.Char.{is_ascii_digit}
+use Rattle.std.specs.List.{list_all}
 
 pub data Line : Type 0 where
   -- a k v
@@ -26,14 +27,6 @@ pub data Line : Type 0 where
 abbrev pub max_line : ℕ
 max_line = 1100
 
-abbrev pub all : (ℕ → Bool) → List ℕ → Bool
-all f [] = true
-all f (b ∷ bs) = f b && all f bs
-
--- 0 to 9
-abbrev pub is_digit : ℕ → Bool
-is_digit b = leb 48 b && leb b 57
-
 -- what digits come to, after others that come to n
 abbrev pub value_of : ℕ → List ℕ → ℕ
 value_of n [] = n
@@ -41,11 +34,11 @@ value_of n (b ∷ bs) = value_of (10 * n + (b - 48)) bs
 
 -- digits with a value below 2^64, after others that come to n
 abbrev pub number_from : ℕ → List ℕ → Option ℕ
-number_from n bs = cond (all is_digit bs && ltb (value_of n bs) (2 ^ 64)) (some (value_of n bs)) none
+number_from n bs = cond (list_all is_ascii_digit bs && ltb (value_of n bs) (2 ^ 64)) (Some (value_of n bs)) None
 
 -- a number: one or more digits with a value below 2^64
 abbrev pub number_of : List ℕ → Option ℕ
-number_of [] = none
+number_of [] = None
 number_of (b ∷ bs) = number_from 0 (b ∷ bs)
 
 -- the characters 0 and 1
@@ -67,18 +60,18 @@ fields (b ∷ bs) = cond (eqb b 32) ([] ∷ fields bs) (onto b (fields bs))
 
 -- the line that a number asks, and two
 abbrev pub of_number : (ℕ → Line) → Option ℕ → Line
-of_number f none = bad
-of_number f (some k) = f k
+of_number f None = bad
+of_number f (Some k) = f k
 
 abbrev pub of_numbers : (ℕ → ℕ → Line) → Option ℕ → Option ℕ → Line
-of_numbers f none n = bad
-of_numbers f (some k) none = bad
-of_numbers f (some k) (some v) = f k v
+of_numbers f None n = bad
+of_numbers f (Some k) None = bad
+of_numbers f (Some k) (Some v) = f k v
 
 -- one or more marks
 abbrev pub marked : List ℕ → Line
 marked [] = bad
-marked (b ∷ bs) = cond (all is_mark (b ∷ bs)) (keeps (map mark_of (b ∷ bs))) bad
+marked (b ∷ bs) = cond (list_all is_mark (b ∷ bs)) (keeps (map mark_of (b ∷ bs))) bad
 
 -- a line of a letter alone: f, b, l, m, k
 abbrev pub alone : ℕ → Line

@@ -1,24 +1,8 @@
 -- What the answers of the parser's functions say.
-use Rattle.std.specs.Prelude.{ℕ, ◌<◌, ◌^◌, List, map, drop}
-use Rattle.std.proofs.Math.Option.{Option, none, some}
+use Rattle.std.specs.Prelude.{ℕ, List, map, drop}
 use Rattle.parsing.specs.Line as L
-use Rattle.parsing.specs.declared.Number.{Number}
-use Rattle.parsing.specs.declared.Number.TheVariants as N
 use Rattle.parsing.specs.declared.Request.{Request}
 use Rattle.parsing.specs.declared.Request.TheVariants as R
-
-abbrev pub told_number : Number → Option ℕ
-told_number (N.Value n) = some n
-told_number N.No = none
-
--- a number whose digits are followed by more bytes
-abbrev pub followed : Number → List ℕ → Option ℕ
-followed (N.Value n) bs = L.number_from n bs
-followed N.No bs = none
-
-abbrev pub IsBelow : Number → Type 0
-IsBelow (N.Value n) = n < 2 ^ 64
-IsBelow N.No = Unit
 
 -- the marks of a line are those after its first two bytes
 abbrev pub told : Request → List ℕ → L.Line

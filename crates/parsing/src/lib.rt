@@ -1,66 +1,47 @@
-// What a line of the calls program asks (document 01, module 8), by its bytes.
+// What a line of the calls program asks, by its bytes.
 
 #![tactic(auto)]
 
-ghost use Rattle.std.specs.Prelude.{◌≡◌, List, [], ◌∷◌, ℕ, min};
+ghost use Rattle.std.specs.Prelude.{◌≡◌, ◌≤◌, List, [], ◌∷◌, ℕ, length};
 ghost use Rattle.parsing.specs.Line as Line;
-ghost use Rattle.parsing.specs.Split.{gap as gap_of, Held, Took};
-ghost use Rattle.parsing.specs.Told.{told, told_number, followed, IsBelow};
+ghost use Rattle.parsing.specs.Split.{gap as gap_of, find as find_of, Held, Took};
+ghost use Rattle.parsing.specs.Told.{told};
+ghost use Rattle.std.specs.List.{list_all};
 
-#[derive(Clone, Copy)]
-pub enum Number {
-    Value(u64),
-    No,
-}
-
-pub fn read_number(s: &[u8]) -> Number
-    ensures { told_number result ≡ Line.number_of s.now }
+// Reads one or more digits: None where there is another byte, or the value is not below 2^64.
+pub fn read_number(s: &[u8]) -> Option<u64>
+    ensures { result ≡ Line.number_of s.now }
 {
-    if s.len() == 0 {
-        return Number::No;
+    if s.is_empty() {
+        return None;
     }
-    let mut value: u64 = 0;
-    let mut i = 0;
-    while i < s.len() {
-        let next = add_digit(value, s[i]);
-        let Number::Value(more) = next else {
-            return Number::No;
-        };
-        value = more;
-        i += 1;
+    let mut value = 0;
+    for &b in s {
+        value = add_digit(value, b)?;
     }
-    Number::Value(value)
+    Some(value)
 }
 
 // Says whether each byte is a mark.
 pub fn are_marks(s: &[u8]) -> bool
-    ensures { result ≡ Line.all Line.is_mark s.now }
+    ensures { result ≡ list_all Line.is_mark s.now }
 {
-    let mut i = 0;
-    while i < s.len() {
-        let b = s[i];
-        if b != b'0' {
-            if b != b'1' {
-                return false;
-            }
-        }
-        i += 1;
-    }
-    true
+    s.iter().all(|b| *b == b'0' || *b == b'1')
 }
 
 // Counts the bytes before the first b.
 pub fn gap(s: &[u8], b: u8) -> usize
-    ensures { result ≡ gap_of b s.now }
+    ensures count { result ≡ gap_of b s.now }
+    ensures within { result ≤ length s.now }
 {
-    let mut i = 0;
-    while i < s.len() {
-        if s[i] == b {
-            return i;
-        }
-        i += 1;
-    }
-    i
+    find(s, b).unwrap_or(s.len())
+}
+
+// Finds the first b.
+fn find(s: &[u8], b: u8) -> Option<usize>
+    ensures { result ≡ find_of b s.now }
+{
+    s.iter().position(|x| *x == b)
 }
 
 // What a line asks. The marks of Keeps are the line's bytes after its first two.
@@ -86,43 +67,30 @@ pub fn parse(line: &[u8]) -> Request
     if MAX_LINE < line.len() {
         return Request::Bad;
     }
-    if line.len() < 1 {
-        return Request::Bad;
+    match line {
+        [c] => alone(*c),
+        [c, b' ', rest @ ..] => with_fields(*c, rest),
+        _ => Request::Bad,
     }
-    let c = line[0];
-    if line.len() < 2 {
-        return alone(c);
-    }
-    if line[1] != b' ' {
-        return Request::Bad;
-    }
-    let rest = &line[2..];
-    with_fields(c, rest)
 }
 
-// Holds the bytes after those that are held, as far as the line is long.
-pub fn hold(bytes: &[u8], line: &mut [u8], held: usize) -> usize
-    ensures { Held bytes.now line.old held line.new result }
+// Holds the values after those that are held, as far as the line is long.
+pub fn hold<T: Copy>(values: &[T], line: &mut [T], held: usize) -> usize
+    ensures { Held values.now line.old held line.new result }
 {
-    let mut at = least(held, line.len());
-    let mut i = 0;
-    while at < line.len() {
-        if bytes.len() <= i {
-            return at;
-        }
-        line[at] = bytes[i];
-        at += 1;
-        i += 1;
-    }
-    at
+    let at = held.min(line.len());
+    let end = at + values.len().min(line.len() - at);
+    line[at..end].copy_from_slice(&values[..end - at]);
+    end
 }
 
-// Whether a line ended, how many of its first bytes are held, and how many bytes of the chunk were used.
+// How many of a line's first bytes are held.
 #[derive(Clone, Copy)]
-pub struct Taken {
-    pub ended: bool,
-    pub held: usize,
-    pub used: usize,
+pub enum Taken {
+    // The line ended, and so many bytes of the chunk are used, its line end too.
+    Ended { held: usize, used: usize },
+    // The whole chunk is used.
+    Unended { held: usize },
 }
 
 // Takes a chunk of the input up to its first line end. As many bytes of the line are held as `line` is long: in MAX_LINE + 1 of them `parse`
@@ -130,52 +98,25 @@ pub struct Taken {
 pub fn take_line(chunk: &[u8], line: &mut [u8], held: usize) -> Taken
     ensures { Took chunk.now line.old held line.new result }
 {
-    let n = gap(chunk, b'\n');
-    if n < chunk.len() {
-        let kept = hold(&chunk[..n], line, held);
-        let used = n + 1;
-        return Taken {
-            ended: true,
-            held: kept,
-            used,
-        };
-    }
-    let kept = hold(chunk, line, held);
-    Taken {
-        ended: false,
-        held: kept,
-        used: chunk.len(),
+    match find(chunk, b'\n') {
+        Some(n) => Taken::Ended {
+            held: hold(&chunk[..n], line, held),
+            used: n + 1,
+        },
+        None => Taken::Unended {
+            held: hold(chunk, line, held),
+        },
     }
 }
 
-// Gives the lesser of the two.
-pub fn least(a: usize, b: usize) -> usize
-    ensures { result ≡ min a b }
+// Adds one digit: None where the byte is none, or the value is not below 2^64.
+fn add_digit(value: u64, b: u8) -> Option<u64>
+    ensures { result ≡ Line.number_from value (b ∷ []) }
 {
-    if a < b { a } else { b }
-}
-
-// Adds one digit: No where the byte is none, or the value is not below 2^64.
-#[tactic(auto, using(crate::proofs::Numbers::past))]
-fn add_digit(value: u64, b: u8) -> Number
-    ensures by_index { (bs : List ℕ) → followed result bs ≡ Line.number_from value (b ∷ bs) }
-    ensures below { IsBelow result }
-{
-    if b < b'0' {
-        return Number::No;
+    if !b.is_ascii_digit() {
+        return None;
     }
-    if b'9' < b {
-        return Number::No;
-    }
-    let digit = (b - b'0') as u64;
-    if 1844674407370955161 < value {
-        return Number::No;
-    }
-    let tens = 10 * value;
-    if 18446744073709551615 - tens < digit {
-        return Number::No;
-    }
-    Number::Value(tens + digit)
+    value.checked_mul(10)?.checked_add((b - b'0') as u64)
 }
 
 // Reads a letter alone.
@@ -196,40 +137,20 @@ fn alone(c: u8) -> Request
 fn with_one(c: u8, x: &[u8]) -> Request
     ensures { told result (c ∷ (32 ∷ x.now)) ≡ Line.with_one c x.now }
 {
-    if c == b'r' {
-        let number = read_number(x);
-        let Number::Value(k) = number else {
-            return Request::Bad;
-        };
-        return Request::Removes(k);
+    match c {
+        b'r' => read_number(x).map_or(Request::Bad, Request::Removes),
+        b'k' if !x.is_empty() && are_marks(x) => Request::Keeps,
+        _ => Request::Bad,
     }
-    if c != b'k' {
-        return Request::Bad;
-    }
-    if x.len() == 0 {
-        return Request::Bad;
-    }
-    if are_marks(x) {
-        return Request::Keeps;
-    }
-    Request::Bad
 }
 
 // Reads a letter and two fields.
 fn with_two(c: u8, x: &[u8], y: &[u8]) -> Request
     ensures { (l : List ℕ) → told result l ≡ Line.with_two c x.now y.now }
 {
-    let first = read_number(x);
-    let Number::Value(k) = first else {
-        return Request::Bad;
-    };
-    let second = read_number(y);
-    let Number::Value(v) = second else {
-        return Request::Bad;
-    };
-    match c {
-        b'a' => Request::Adds(k, v),
-        b'i' => Request::Inserts(k, v),
+    match (c, read_number(x), read_number(y)) {
+        (b'a', Some(k), Some(v)) => Request::Adds(k, v),
+        (b'i', Some(k), Some(v)) => Request::Inserts(k, v),
         _ => Request::Bad,
     }
 }
@@ -238,12 +159,8 @@ fn with_two(c: u8, x: &[u8], y: &[u8]) -> Request
 fn with_fields(c: u8, rest: &[u8]) -> Request
     ensures { told result (c ∷ (32 ∷ rest.now)) ≡ Line.fielded c (Line.fields rest.now) }
 {
-    let n = gap(rest, b' ');
-    if n == rest.len() {
-        return with_one(c, rest);
+    match find(rest, b' ') {
+        Some(n) => with_two(c, &rest[..n], &rest[n + 1..]),
+        None => with_one(c, rest),
     }
-    let next = n + 1;
-    let x = &rest[..n];
-    let y = &rest[next..];
-    with_two(c, x, y)
 }

@@ -1,65 +1,42 @@
-// The call that takes the first round out, in place: its step of document 01 on a well-linked map; and `pop`, by which either end's round is taken
-// out. Each pop has a crate of its own: where crates are compiled one by one, each has then one call of `changing::leave`, and the compiler puts it in.
+// The call that takes the first round out, in place; and `pop`, by which either end's round is taken out. Each pop has a crate of its own: where
+// crates are compiled one by one, each has then one call of `changing::leave`, and the compiler puts it in.
 
 #![tactic(auto)]
 
-ghost use Rattle.std.specs.Prelude.{◌≡◌, Bool, cond, []};
+ghost use Rattle.std.specs.Prelude.{◌≡◌, Bool, cond};
+ghost use Rattle.answers.specs.Answers.{popped_of};
 ghost use Rattle.steps.specs.Call as C;
-ghost use Rattle.steps.specs.Told.{Told};
+ghost use Rattle.steps.specs.Step.{say};
+ghost use Rattle.steps.specs.Trace.{Does};
 ghost use Rattle.links.specs.Stores.{at};
-ghost use Rattle.multimap.specs.Arrays.{Arrays};
-ghost use Rattle.multimap.specs.Lent.{given, lent, left};
 ghost use Rattle.multimap.specs.Popping.{pop_of};
 ghost use Rattle.multimap.specs.WellLinked.{WellLinked, linked};
 
-use answers::Answer;
-use multimap::{
-    Counts, Index, IndexLinks, KeyIndex, KeyLinks, Keys, Lengths, ROUNDS, Taken, ValueLinks,
-    ValuePlace, Values,
-};
+use answers::Popped;
+use links::Place;
+use multimap::{ListOrderedMultimap, ROUNDS, ValuePlace};
 
 // Takes the first round out.
-#[rattlefmt::skip]
-pub fn om_pop_front(
-    keys: &mut Keys, lengths: &mut Lengths, next_key: &mut KeyLinks, previous_key: &mut KeyLinks,
-    values: &mut Values, key_index: &mut KeyIndex, next_value: &mut ValueLinks, previous_value: &mut ValueLinks,
-    next_index: &mut IndexLinks, previous_index: &mut IndexLinks, index: &mut Index,
-    members: &mut Counts, rounds: &mut Counts, taken: &mut Taken,
-    answer: &mut [u64; 4],
-)
-    requires { WellLinked (lent keys lengths next_key previous_key values key_index next_value previous_value next_index previous_index index members rounds taken) }
-    ensures { let g : Arrays = given keys lengths next_key previous_key values key_index next_value previous_value next_index previous_index index members rounds taken in Told linked C.pop_front g (left keys lengths next_key previous_key values key_index next_value previous_value next_index previous_index index members rounds taken) [] [] answer.new }
+pub fn pop_front(map: &mut ListOrderedMultimap) -> Option<Popped>
+    requires { WellLinked map.old }
+    ensures { Does linked C.pop_front map.old (say (popped_of result)) map.new }
 {
-    let first = multimap::after(next_value, ValuePlace(ROUNDS));
-    pop(
-        keys, lengths, next_key, previous_key, values, key_index, next_value, previous_value,
-        next_index, previous_index, index, members, rounds, taken, first, answer,
-    );
+    let first = links::after(&map.next_value, ValuePlace::new(ROUNDS));
+    pop(map, first)
 }
 
-// Takes the round in the place x out, which is the first or the last, and tells it; or tells that there is none.
-#[rattlefmt::skip]
-pub fn pop(
-    keys: &mut Keys, lengths: &mut Lengths, next_key: &mut KeyLinks, previous_key: &mut KeyLinks,
-    values: &mut Values, key_index: &mut KeyIndex, next_value: &mut ValueLinks, previous_value: &mut ValueLinks,
-    next_index: &mut IndexLinks, previous_index: &mut IndexLinks, index: &mut Index,
-    members: &mut Counts, rounds: &mut Counts, taken: &mut Taken,
-    x: ValuePlace, answer: &mut [u64; 4],
-)
-    requires { WellLinked (lent keys lengths next_key previous_key values key_index next_value previous_value next_index previous_index index members rounds taken) }
-    ensures { let g : Arrays = given keys lengths next_key previous_key values key_index next_value previous_value next_index previous_index index members rounds taken in (b : Bool) → x.0 ≡ cond b (at g.next_value 1024) (at g.previous_value 1024) → Told linked (pop_of b) g (left keys lengths next_key previous_key values key_index next_value previous_value next_index previous_index index members rounds taken) [] [] answer.new }
+// Takes the round in the place x out, which is the first or the last, where there is one.
+pub fn pop(map: &mut ListOrderedMultimap, x: ValuePlace) -> Option<Popped>
+    requires { WellLinked map.old }
+    ensures { (b : Bool) → x ≡ cond b (at map.old.next_value 1024) (at map.old.previous_value 1024) → Does linked (pop_of b) map.old (say (popped_of result)) map.new }
 {
-    let held = rounds[0];
-    if held == 0 {
-        answers::tell(answer, Answer::Nothing);
-        return;
+    if map.rounds.len == 0 {
+        return None;
     }
-    let key = multimap::owner(key_index, x);
-    let member = multimap::member(keys, key);
-    let round = multimap::round(values, x);
-    let gone = changing::leave(
-        keys, lengths, next_key, previous_key, values, key_index, next_value, previous_value,
-        next_index, previous_index, index, members, rounds, taken, x,
-    );
-    answers::tell(answer, Answer::Popped(member, round, gone));
+    let key = map.owner(x);
+    Some(Popped {
+        member: map.member(key),
+        round: map.round(x),
+        gone: changing::leave(map, x),
+    })
 }

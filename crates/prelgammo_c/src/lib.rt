@@ -1,511 +1,402 @@
-// What C and Rust call of the map: each export calls the function of its name in the crate that has it, and promises what that one promises.
-// The calls in place are lent the map's arrays one by one; `om_turn` takes the record by value.
+// What C and Rust call of the map: each export makes the call of its name and tells its answer by four numbers. A map is lent by a pointer to the
+// record; `om_turn` takes the record by value.
 
 #![tactic(auto)]
 
-ghost use Rattle.std.specs.Prelude.{◌≡◌, []};
+ghost use Rattle.std.specs.Prelude.{[]};
 ghost use Rattle.steps.specs.State.{limit};
 ghost use Rattle.steps.specs.Call as C;
 ghost use Rattle.steps.specs.Told.{Told};
-ghost use Rattle.multimap.specs.Arrays.{Arrays, arrays, arrays_of};
-ghost use Rattle.multimap.specs.Lent.{given, lent, left};
 ghost use Rattle.multimap.specs.Making.{Made};
 ghost use Rattle.multimap.specs.WellLinked.{WellLinked, linked};
-ghost use Rattle.reading.specs.Reads.{Reads};
 ghost use Rattle.turn.specs.Turned.{Turned};
-ghost use Rattle.ordered_multimap.specs.Turned.{TurnedTyped};
 ghost use Rattle.replay.specs.Played.{Played};
 ghost use Rattle.image.specs.Answers.{Writes, Restores};
 ghost use Rattle.well_linked.specs.Told.{Tells};
+ghost use Rattle.multimap.specs.declared.ListOrderedMultimap.{ListOrderedMultimap};
 
-use multimap::{
-    Counts, Index, IndexLinks, KeyIndex, KeyLinks, Keys, Lengths, ListOrderedMultimap, Taken,
-    ValueLinks, Values,
-};
+use multimap::ListOrderedMultimap;
 
 // Makes the empty map with these limits, whatever the arrays hold; a refused making leaves it with both limits 0.
 #[unsafe(no_mangle)]
-#[rattlefmt::skip]
 pub extern "C" fn om_new(
-    keys: &mut Keys, lengths: &mut Lengths, next_key: &mut KeyLinks, previous_key: &mut KeyLinks,
-    values: &mut Values, key_index: &mut KeyIndex, next_value: &mut ValueLinks, previous_value: &mut ValueLinks,
-    next_index: &mut IndexLinks, previous_index: &mut IndexLinks, index: &mut Index,
-    members: &mut Counts, rounds: &mut Counts, taken: &mut Taken,
-    members_limit: u64, rounds_limit: u64, answer: &mut [u64; 4],
+    map: &mut ListOrderedMultimap,
+    members_limit: u64,
+    rounds_limit: u64,
+    answer: &mut [u64; 4],
 )
-    ensures { Made (limit members_limit rounds_limit) (left keys lengths next_key previous_key values key_index next_value previous_value next_index previous_index index members rounds taken) answer.new }
+    ensures { Made (limit members_limit rounds_limit) map.new answer.new }
 {
-    packing::om_new(
-        keys, lengths, next_key, previous_key, values, key_index, next_value, previous_value,
-        next_index, previous_index, index, members, rounds, taken, members_limit, rounds_limit, answer,
-    );
+    answers::tell(answer, packing::new(map, members_limit, rounds_limit));
 }
 
 // Empties the map, which stays as it is where it holds no round: then it has no member either. T stays.
 #[unsafe(no_mangle)]
-#[rattlefmt::skip]
-pub extern "C" fn om_clear(
-    keys: &mut Keys, lengths: &mut Lengths, next_key: &mut KeyLinks, previous_key: &mut KeyLinks,
-    values: &mut Values, key_index: &mut KeyIndex, next_value: &mut ValueLinks, previous_value: &mut ValueLinks,
-    next_index: &mut IndexLinks, previous_index: &mut IndexLinks, index: &mut Index,
-    members: &mut Counts, rounds: &mut Counts, taken: &mut Taken,
-    answer: &mut [u64; 4],
-)
-    requires { WellLinked (lent keys lengths next_key previous_key values key_index next_value previous_value next_index previous_index index members rounds taken) }
-    ensures { let g : Arrays = given keys lengths next_key previous_key values key_index next_value previous_value next_index previous_index index members rounds taken in Told linked C.clear g (left keys lengths next_key previous_key values key_index next_value previous_value next_index previous_index index members rounds taken) [] [] answer.new }
+pub extern "C" fn om_clear(map: &mut ListOrderedMultimap, answer: &mut [u64; 4])
+    requires { WellLinked map.old }
+    ensures { Told linked C.clear map.old map.new [] [] answer.new }
 {
-    packing::om_clear(
-        keys, lengths, next_key, previous_key, values, key_index, next_value, previous_value,
-        next_index, previous_index, index, members, rounds, taken, answer,
-    );
+    packing::clear(map);
+    answers::tell(answer, Ok(()));
 }
 
 // Moves the i-th pair to the round place i, and the i-th member to the member place i.
 #[unsafe(no_mangle)]
-#[rattlefmt::skip]
 pub extern "C" fn om_pack_to(
-    keys: &mut Keys, lengths: &mut Lengths, next_key: &mut KeyLinks, previous_key: &mut KeyLinks,
-    values: &mut Values, key_index: &mut KeyIndex, next_value: &mut ValueLinks, previous_value: &mut ValueLinks,
-    next_index: &mut IndexLinks, previous_index: &mut IndexLinks, index: &mut Index,
-    members: &mut Counts, rounds: &mut Counts, taken: &mut Taken,
-    keys_minimum: u64, values_minimum: u64, answer: &mut [u64; 4],
+    map: &mut ListOrderedMultimap,
+    keys_minimum: u64,
+    values_minimum: u64,
+    answer: &mut [u64; 4],
 )
-    requires { WellLinked (lent keys lengths next_key previous_key values key_index next_value previous_value next_index previous_index index members rounds taken) }
-    ensures { let g : Arrays = given keys lengths next_key previous_key values key_index next_value previous_value next_index previous_index index members rounds taken in Told linked (C.pack_to keys_minimum values_minimum) g (left keys lengths next_key previous_key values key_index next_value previous_value next_index previous_index index members rounds taken) [] [] answer.new }
+    requires { WellLinked map.old }
+    ensures { Told linked (C.pack_to keys_minimum values_minimum) map.old map.new [] [] answer.new }
 {
-    packing::om_pack_to(
-        keys, lengths, next_key, previous_key, values, key_index, next_value, previous_value,
-        next_index, previous_index, index, members, rounds, taken, keys_minimum, values_minimum, answer,
-    );
+    answers::tell(answer, packing::pack_to(map, keys_minimum, values_minimum));
 }
 
 // Adds the round v of the member k at the back, for the poster; a new member joins at the back. The answer is whether k was present.
 #[unsafe(no_mangle)]
-#[rattlefmt::skip]
 pub extern "C" fn om_append(
-    keys: &mut Keys, lengths: &mut Lengths, next_key: &mut KeyLinks, previous_key: &mut KeyLinks,
-    values: &mut Values, key_index: &mut KeyIndex, next_value: &mut ValueLinks, previous_value: &mut ValueLinks,
-    next_index: &mut IndexLinks, previous_index: &mut IndexLinks, index: &mut Index,
-    members: &mut Counts, rounds: &mut Counts, taken: &mut Taken,
-    poster: u64, k: u64, v: u64, answer: &mut [u64; 4],
+    map: &mut ListOrderedMultimap,
+    poster: u64,
+    k: u64,
+    v: u64,
+    answer: &mut [u64; 4],
 )
-    requires { WellLinked (lent keys lengths next_key previous_key values key_index next_value previous_value next_index previous_index index members rounds taken) }
-    ensures { let g : Arrays = given keys lengths next_key previous_key values key_index next_value previous_value next_index previous_index index members rounds taken in Told linked (C.append poster k v) g (left keys lengths next_key previous_key values key_index next_value previous_value next_index previous_index index members rounds taken) [] [] answer.new }
+    requires { WellLinked map.old }
+    ensures { Told linked (C.append poster k v) map.old map.new [] [] answer.new }
 {
-    adding::om_append(
-        keys, lengths, next_key, previous_key, values, key_index, next_value, previous_value,
-        next_index, previous_index, index, members, rounds, taken, poster, k, v, answer,
-    );
+    answers::tell(answer, adding::append(map, poster, k, v));
 }
 
 // Puts the round v in the place of the member's record; a new member joins at the back. The answer is the old record's first round, or none.
 #[unsafe(no_mangle)]
-#[rattlefmt::skip]
 pub extern "C" fn om_insert(
-    keys: &mut Keys, lengths: &mut Lengths, next_key: &mut KeyLinks, previous_key: &mut KeyLinks,
-    values: &mut Values, key_index: &mut KeyIndex, next_value: &mut ValueLinks, previous_value: &mut ValueLinks,
-    next_index: &mut IndexLinks, previous_index: &mut IndexLinks, index: &mut Index,
-    members: &mut Counts, rounds: &mut Counts, taken: &mut Taken,
-    poster: u64, k: u64, v: u64, answer: &mut [u64; 4],
+    map: &mut ListOrderedMultimap,
+    poster: u64,
+    k: u64,
+    v: u64,
+    answer: &mut [u64; 4],
 )
-    requires { WellLinked (lent keys lengths next_key previous_key values key_index next_value previous_value next_index previous_index index members rounds taken) }
-    ensures { let g : Arrays = given keys lengths next_key previous_key values key_index next_value previous_value next_index previous_index index members rounds taken in Told linked (C.insert poster k v) g (left keys lengths next_key previous_key values key_index next_value previous_value next_index previous_index index members rounds taken) [] [] answer.new }
+    requires { WellLinked map.old }
+    ensures { Told linked (C.insert poster k v) map.old map.new [] [] answer.new }
 {
-    inserting::om_insert(
-        keys, lengths, next_key, previous_key, values, key_index, next_value, previous_value,
-        next_index, previous_index, index, members, rounds, taken, poster, k, v, answer,
-    );
+    answers::tell(answer, inserting::insert(map, poster, k, v));
 }
 
 // Puts the round v in the place of the member's record, which is written, in order, to the front of `out`; a new member joins at the back.
 // The answer is how long the record was.
 #[unsafe(no_mangle)]
-#[rattlefmt::skip]
 pub extern "C" fn om_insert_all(
-    keys: &mut Keys, lengths: &mut Lengths, next_key: &mut KeyLinks, previous_key: &mut KeyLinks,
-    values: &mut Values, key_index: &mut KeyIndex, next_value: &mut ValueLinks, previous_value: &mut ValueLinks,
-    next_index: &mut IndexLinks, previous_index: &mut IndexLinks, index: &mut Index,
-    members: &mut Counts, rounds: &mut Counts, taken: &mut Taken,
-    poster: u64, k: u64, v: u64, out: &mut [u64], answer: &mut [u64; 4],
+    map: &mut ListOrderedMultimap,
+    poster: u64,
+    k: u64,
+    v: u64,
+    out: &mut [u64],
+    answer: &mut [u64; 4],
 )
-    requires { WellLinked (lent keys lengths next_key previous_key values key_index next_value previous_value next_index previous_index index members rounds taken) }
-    ensures { let g : Arrays = given keys lengths next_key previous_key values key_index next_value previous_value next_index previous_index index members rounds taken in Told linked (C.insert_all poster k v out.old) g (left keys lengths next_key previous_key values key_index next_value previous_value next_index previous_index index members rounds taken) out.new [] answer.new }
+    requires { WellLinked map.old }
+    ensures { Told linked (C.insert_all poster k v out.old) map.old map.new out.new [] answer.new }
 {
-    inserting_all::om_insert_all(
-        keys, lengths, next_key, previous_key, values, key_index, next_value, previous_value,
-        next_index, previous_index, index, members, rounds, taken, poster, k, v, out, answer,
-    );
+    answers::tell(answer, inserting_all::insert_all(map, poster, k, v, out));
 }
 
 // Takes the rounds of the member k out, and it with them; tells the first of them.
 #[unsafe(no_mangle)]
-#[rattlefmt::skip]
-pub extern "C" fn om_remove(
-    keys: &mut Keys, lengths: &mut Lengths, next_key: &mut KeyLinks, previous_key: &mut KeyLinks,
-    values: &mut Values, key_index: &mut KeyIndex, next_value: &mut ValueLinks, previous_value: &mut ValueLinks,
-    next_index: &mut IndexLinks, previous_index: &mut IndexLinks, index: &mut Index,
-    members: &mut Counts, rounds: &mut Counts, taken: &mut Taken,
-    k: u64, answer: &mut [u64; 4],
-)
-    requires { WellLinked (lent keys lengths next_key previous_key values key_index next_value previous_value next_index previous_index index members rounds taken) }
-    ensures { let g : Arrays = given keys lengths next_key previous_key values key_index next_value previous_value next_index previous_index index members rounds taken in Told linked (C.remove k) g (left keys lengths next_key previous_key values key_index next_value previous_value next_index previous_index index members rounds taken) [] [] answer.new }
+pub extern "C" fn om_remove(map: &mut ListOrderedMultimap, k: u64, answer: &mut [u64; 4])
+    requires { WellLinked map.old }
+    ensures { Told linked (C.remove k) map.old map.new [] [] answer.new }
 {
-    removing::om_remove(
-        keys, lengths, next_key, previous_key, values, key_index, next_value, previous_value,
-        next_index, previous_index, index, members, rounds, taken, k, answer,
-    );
+    answers::tell(answer, Ok(removing::remove(map, k)));
 }
 
 // Takes the rounds of the member k out, and it with them; writes them to the front of `out` and tells how many.
 #[unsafe(no_mangle)]
-#[rattlefmt::skip]
 pub extern "C" fn om_remove_all(
-    keys: &mut Keys, lengths: &mut Lengths, next_key: &mut KeyLinks, previous_key: &mut KeyLinks,
-    values: &mut Values, key_index: &mut KeyIndex, next_value: &mut ValueLinks, previous_value: &mut ValueLinks,
-    next_index: &mut IndexLinks, previous_index: &mut IndexLinks, index: &mut Index,
-    members: &mut Counts, rounds: &mut Counts, taken: &mut Taken,
-    k: u64, out: &mut [u64], answer: &mut [u64; 4],
+    map: &mut ListOrderedMultimap,
+    k: u64,
+    out: &mut [u64],
+    answer: &mut [u64; 4],
 )
-    requires { WellLinked (lent keys lengths next_key previous_key values key_index next_value previous_value next_index previous_index index members rounds taken) }
-    ensures { let g : Arrays = given keys lengths next_key previous_key values key_index next_value previous_value next_index previous_index index members rounds taken in Told linked (C.remove_all k out.old) g (left keys lengths next_key previous_key values key_index next_value previous_value next_index previous_index index members rounds taken) out.new [] answer.new }
+    requires { WellLinked map.old }
+    ensures { Told linked (C.remove_all k out.old) map.old map.new out.new [] answer.new }
 {
-    removing::om_remove_all(
-        keys, lengths, next_key, previous_key, values, key_index, next_value, previous_value,
-        next_index, previous_index, index, members, rounds, taken, k, out, answer,
-    );
+    answers::tell(answer, removing::remove_all(map, k, out));
 }
 
 // Takes the first round out.
 #[unsafe(no_mangle)]
-#[rattlefmt::skip]
-pub extern "C" fn om_pop_front(
-    keys: &mut Keys, lengths: &mut Lengths, next_key: &mut KeyLinks, previous_key: &mut KeyLinks,
-    values: &mut Values, key_index: &mut KeyIndex, next_value: &mut ValueLinks, previous_value: &mut ValueLinks,
-    next_index: &mut IndexLinks, previous_index: &mut IndexLinks, index: &mut Index,
-    members: &mut Counts, rounds: &mut Counts, taken: &mut Taken,
-    answer: &mut [u64; 4],
-)
-    requires { WellLinked (lent keys lengths next_key previous_key values key_index next_value previous_value next_index previous_index index members rounds taken) }
-    ensures { let g : Arrays = given keys lengths next_key previous_key values key_index next_value previous_value next_index previous_index index members rounds taken in Told linked C.pop_front g (left keys lengths next_key previous_key values key_index next_value previous_value next_index previous_index index members rounds taken) [] [] answer.new }
+pub extern "C" fn om_pop_front(map: &mut ListOrderedMultimap, answer: &mut [u64; 4])
+    requires { WellLinked map.old }
+    ensures { Told linked C.pop_front map.old map.new [] [] answer.new }
 {
-    popping::om_pop_front(
-        keys, lengths, next_key, previous_key, values, key_index, next_value, previous_value,
-        next_index, previous_index, index, members, rounds, taken, answer,
-    );
+    answers::tell(answer, Ok(popping::pop_front(map)));
 }
 
 // Takes the last round out.
 #[unsafe(no_mangle)]
-#[rattlefmt::skip]
-pub extern "C" fn om_pop_back(
-    keys: &mut Keys, lengths: &mut Lengths, next_key: &mut KeyLinks, previous_key: &mut KeyLinks,
-    values: &mut Values, key_index: &mut KeyIndex, next_value: &mut ValueLinks, previous_value: &mut ValueLinks,
-    next_index: &mut IndexLinks, previous_index: &mut IndexLinks, index: &mut Index,
-    members: &mut Counts, rounds: &mut Counts, taken: &mut Taken,
-    answer: &mut [u64; 4],
-)
-    requires { WellLinked (lent keys lengths next_key previous_key values key_index next_value previous_value next_index previous_index index members rounds taken) }
-    ensures { let g : Arrays = given keys lengths next_key previous_key values key_index next_value previous_value next_index previous_index index members rounds taken in Told linked C.pop_back g (left keys lengths next_key previous_key values key_index next_value previous_value next_index previous_index index members rounds taken) [] [] answer.new }
+pub extern "C" fn om_pop_back(map: &mut ListOrderedMultimap, answer: &mut [u64; 4])
+    requires { WellLinked map.old }
+    ensures { Told linked C.pop_back map.old map.new [] [] answer.new }
 {
-    popping_back::om_pop_back(
-        keys, lengths, next_key, previous_key, values, key_index, next_value, previous_value,
-        next_index, previous_index, index, members, rounds, taken, answer,
-    );
+    answers::tell(answer, Ok(popping_back::pop_back(map)));
 }
 
 // Takes the rounds out whose mark is 0, and the members with no other round; tells how many rounds are kept.
 #[unsafe(no_mangle)]
-#[rattlefmt::skip]
-pub extern "C" fn om_retain(
-    keys: &mut Keys, lengths: &mut Lengths, next_key: &mut KeyLinks, previous_key: &mut KeyLinks,
-    values: &mut Values, key_index: &mut KeyIndex, next_value: &mut ValueLinks, previous_value: &mut ValueLinks,
-    next_index: &mut IndexLinks, previous_index: &mut IndexLinks, index: &mut Index,
-    members: &mut Counts, rounds: &mut Counts, taken: &mut Taken,
-    marks: &[u8], answer: &mut [u64; 4],
-)
-    requires { WellLinked (lent keys lengths next_key previous_key values key_index next_value previous_value next_index previous_index index members rounds taken) }
-    ensures { let g : Arrays = given keys lengths next_key previous_key values key_index next_value previous_value next_index previous_index index members rounds taken in Told linked (C.retain marks.now) g (left keys lengths next_key previous_key values key_index next_value previous_value next_index previous_index index members rounds taken) [] [] answer.new }
+pub extern "C" fn om_retain(map: &mut ListOrderedMultimap, marks: &[u8], answer: &mut [u64; 4])
+    requires { WellLinked map.old }
+    ensures { Told linked (C.retain marks.now) map.old map.new [] [] answer.new }
 {
-    retaining::om_retain(
-        keys, lengths, next_key, previous_key, values, key_index, next_value, previous_value,
-        next_index, previous_index, index, members, rounds, taken, marks, answer,
-    );
+    answers::tell(answer, retaining::retain(map, marks));
 }
 
 // Adds a further round v of the member k at the back.
 #[unsafe(no_mangle)]
-#[rattlefmt::skip]
 pub extern "C" fn om_occupied_append(
-    keys: &mut Keys, lengths: &mut Lengths, next_key: &mut KeyLinks, previous_key: &mut KeyLinks,
-    values: &mut Values, key_index: &mut KeyIndex, next_value: &mut ValueLinks, previous_value: &mut ValueLinks,
-    next_index: &mut IndexLinks, previous_index: &mut IndexLinks, index: &mut Index,
-    members: &mut Counts, rounds: &mut Counts, taken: &mut Taken,
-    poster: u64, k: u64, v: u64, answer: &mut [u64; 4],
+    map: &mut ListOrderedMultimap,
+    poster: u64,
+    k: u64,
+    v: u64,
+    answer: &mut [u64; 4],
 )
-    requires { WellLinked (lent keys lengths next_key previous_key values key_index next_value previous_value next_index previous_index index members rounds taken) }
-    ensures { let g : Arrays = given keys lengths next_key previous_key values key_index next_value previous_value next_index previous_index index members rounds taken in Told linked (C.occupied_append poster k v) g (left keys lengths next_key previous_key values key_index next_value previous_value next_index previous_index index members rounds taken) [] [] answer.new }
+    requires { WellLinked map.old }
+    ensures { Told linked (C.occupied_append poster k v) map.old map.new [] [] answer.new }
 {
-    entries::om_occupied_append(
-        keys, lengths, next_key, previous_key, values, key_index, next_value, previous_value,
-        next_index, previous_index, index, members, rounds, taken, poster, k, v, answer,
-    );
+    answers::tell(answer, entries::occupied_append(map, poster, k, v));
 }
 
 // Puts the round v in the place of the member's record. The answer is the old record's first round.
 #[unsafe(no_mangle)]
-#[rattlefmt::skip]
 pub extern "C" fn om_occupied_insert(
-    keys: &mut Keys, lengths: &mut Lengths, next_key: &mut KeyLinks, previous_key: &mut KeyLinks,
-    values: &mut Values, key_index: &mut KeyIndex, next_value: &mut ValueLinks, previous_value: &mut ValueLinks,
-    next_index: &mut IndexLinks, previous_index: &mut IndexLinks, index: &mut Index,
-    members: &mut Counts, rounds: &mut Counts, taken: &mut Taken,
-    poster: u64, k: u64, v: u64, answer: &mut [u64; 4],
+    map: &mut ListOrderedMultimap,
+    poster: u64,
+    k: u64,
+    v: u64,
+    answer: &mut [u64; 4],
 )
-    requires { WellLinked (lent keys lengths next_key previous_key values key_index next_value previous_value next_index previous_index index members rounds taken) }
-    ensures { let g : Arrays = given keys lengths next_key previous_key values key_index next_value previous_value next_index previous_index index members rounds taken in Told linked (C.occupied_insert poster k v) g (left keys lengths next_key previous_key values key_index next_value previous_value next_index previous_index index members rounds taken) [] [] answer.new }
+    requires { WellLinked map.old }
+    ensures { Told linked (C.occupied_insert poster k v) map.old map.new [] [] answer.new }
 {
-    entries::om_occupied_insert(
-        keys, lengths, next_key, previous_key, values, key_index, next_value, previous_value,
-        next_index, previous_index, index, members, rounds, taken, poster, k, v, answer,
-    );
+    answers::tell(answer, entries::occupied_insert(map, poster, k, v));
 }
 
 // Takes the member k out with its record. The answer is the record's first round.
 #[unsafe(no_mangle)]
-#[rattlefmt::skip]
 pub extern "C" fn om_occupied_remove_entry(
-    keys: &mut Keys, lengths: &mut Lengths, next_key: &mut KeyLinks, previous_key: &mut KeyLinks,
-    values: &mut Values, key_index: &mut KeyIndex, next_value: &mut ValueLinks, previous_value: &mut ValueLinks,
-    next_index: &mut IndexLinks, previous_index: &mut IndexLinks, index: &mut Index,
-    members: &mut Counts, rounds: &mut Counts, taken: &mut Taken,
-    k: u64, answer: &mut [u64; 4],
+    map: &mut ListOrderedMultimap,
+    k: u64,
+    answer: &mut [u64; 4],
 )
-    requires { WellLinked (lent keys lengths next_key previous_key values key_index next_value previous_value next_index previous_index index members rounds taken) }
-    ensures { let g : Arrays = given keys lengths next_key previous_key values key_index next_value previous_value next_index previous_index index members rounds taken in Told linked (C.occupied_remove_entry k) g (left keys lengths next_key previous_key values key_index next_value previous_value next_index previous_index index members rounds taken) [] [] answer.new }
+    requires { WellLinked map.old }
+    ensures { Told linked (C.occupied_remove_entry k) map.old map.new [] [] answer.new }
 {
-    entries::om_occupied_remove_entry(
-        keys, lengths, next_key, previous_key, values, key_index, next_value, previous_value,
-        next_index, previous_index, index, members, rounds, taken, k, answer,
-    );
+    answers::tell(answer, entries::occupied_remove_entry(map, k));
 }
 
 // Lets the new member k join with its first round v.
 #[unsafe(no_mangle)]
-#[rattlefmt::skip]
 pub extern "C" fn om_vacant_insert(
-    keys: &mut Keys, lengths: &mut Lengths, next_key: &mut KeyLinks, previous_key: &mut KeyLinks,
-    values: &mut Values, key_index: &mut KeyIndex, next_value: &mut ValueLinks, previous_value: &mut ValueLinks,
-    next_index: &mut IndexLinks, previous_index: &mut IndexLinks, index: &mut Index,
-    members: &mut Counts, rounds: &mut Counts, taken: &mut Taken,
-    poster: u64, k: u64, v: u64, answer: &mut [u64; 4],
+    map: &mut ListOrderedMultimap,
+    poster: u64,
+    k: u64,
+    v: u64,
+    answer: &mut [u64; 4],
 )
-    requires { WellLinked (lent keys lengths next_key previous_key values key_index next_value previous_value next_index previous_index index members rounds taken) }
-    ensures { let g : Arrays = given keys lengths next_key previous_key values key_index next_value previous_value next_index previous_index index members rounds taken in Told linked (C.vacant_insert poster k v) g (left keys lengths next_key previous_key values key_index next_value previous_value next_index previous_index index members rounds taken) [] [] answer.new }
+    requires { WellLinked map.old }
+    ensures { Told linked (C.vacant_insert poster k v) map.old map.new [] [] answer.new }
 {
-    entries::om_vacant_insert(
-        keys, lengths, next_key, previous_key, values, key_index, next_value, previous_value,
-        next_index, previous_index, index, members, rounds, taken, poster, k, v, answer,
-    );
+    answers::tell(answer, entries::vacant_insert(map, poster, k, v));
 }
 
 // Tells the member's first round.
 #[unsafe(no_mangle)]
-#[rattlefmt::skip]
-pub extern "C" fn om_get<'a>(
-    keys: &'a Keys, values: &'a Values, next_index: &'a IndexLinks, index: &'a Index, k: u64, answer: &mut [u64; 4],
-)
-    ensures { Reads (C.get k) [] [] answer.new (λ α. (keys.now ≡ α.keys) × (values.now ≡ α.values)
-        × (next_index.now ≡ α.next_index) × (index.now ≡ α.index)) }
+pub extern "C" fn om_get(map: &ListOrderedMultimap, k: u64, answer: &mut [u64; 4])
+    ensures { WellLinked map.now → Told linked (C.get k) map.now map.now [] [] answer.new }
 {
-    reading::om_get(keys, values, next_index, index, k, answer);
+    answers::tell(answer, Ok(reading::get(map, k)));
 }
 
 // Writes the member's rounds, in order, to the front of `out`, and tells how many.
 #[unsafe(no_mangle)]
-#[rattlefmt::skip]
-pub extern "C" fn om_get_all<'a>(
-    keys: &'a Keys, lengths: &'a Lengths, values: &'a Values, next_index: &'a IndexLinks, index: &'a Index,
-    k: u64, out: &mut [u64], answer: &mut [u64; 4],
+pub extern "C" fn om_get_all(
+    map: &ListOrderedMultimap,
+    k: u64,
+    out: &mut [u64],
+    answer: &mut [u64; 4],
 )
-    ensures { Reads (C.get_all k out.old) out.new [] answer.new (λ α. (keys.now ≡ α.keys)
-        × (lengths.now ≡ α.lengths) × (values.now ≡ α.values) × (next_index.now ≡ α.next_index)
-        × (index.now ≡ α.index)) }
+    ensures { WellLinked map.now → Told linked (C.get_all k out.old) map.now map.now out.new [] answer.new }
 {
-    reading::om_get_all(keys, lengths, values, next_index, index, k, out, answer);
+    answers::tell(answer, reading::get_all(map, k, out));
 }
 
 // Tells the member's entry.
 #[unsafe(no_mangle)]
-#[rattlefmt::skip]
-pub extern "C" fn om_entry<'a>(keys: &'a Keys, lengths: &'a Lengths, index: &'a Index, k: u64, answer: &mut [u64; 4])
-    ensures { Reads (C.entry k) [] [] answer.new (λ α. (keys.now ≡ α.keys)
-        × (lengths.now ≡ α.lengths) × (index.now ≡ α.index)) }
+pub extern "C" fn om_entry(map: &ListOrderedMultimap, k: u64, answer: &mut [u64; 4])
+    ensures { WellLinked map.now → Told linked (C.entry k) map.now map.now [] [] answer.new }
 {
-    reading::om_entry(keys, lengths, index, k, answer);
+    answers::tell(answer, Ok(reading::entry(map, k)));
 }
 
 // Tells how many rounds the member has.
 #[unsafe(no_mangle)]
-#[rattlefmt::skip]
-pub extern "C" fn om_entry_len<'a>(keys: &'a Keys, lengths: &'a Lengths, index: &'a Index, k: u64, answer: &mut [u64; 4])
-    ensures { Reads (C.entry_len k) [] [] answer.new (λ α. (keys.now ≡ α.keys)
-        × (lengths.now ≡ α.lengths) × (index.now ≡ α.index)) }
+pub extern "C" fn om_entry_len(map: &ListOrderedMultimap, k: u64, answer: &mut [u64; 4])
+    ensures { WellLinked map.now → Told linked (C.entry_len k) map.now map.now [] [] answer.new }
 {
-    reading::om_entry_len(keys, lengths, index, k, answer);
+    answers::tell(answer, Ok(reading::entry_len(map, k)));
 }
 
 // Tells whether the number is a member.
 #[unsafe(no_mangle)]
-#[rattlefmt::skip]
-pub extern "C" fn om_contains_key<'a>(keys: &'a Keys, index: &'a Index, k: u64, answer: &mut [u64; 4])
-    ensures { Reads (C.contains_key k) [] [] answer.new (λ α. (keys.now ≡ α.keys)
-        × (index.now ≡ α.index)) }
+pub extern "C" fn om_contains_key(map: &ListOrderedMultimap, k: u64, answer: &mut [u64; 4])
+    ensures { WellLinked map.now → Told linked (C.contains_key k) map.now map.now [] [] answer.new }
 {
-    reading::om_contains_key(keys, index, k, answer);
+    answers::tell(answer, Ok(reading::contains_key(map, k)));
 }
 
 // Writes the members, in joining order, to the front of `out`, and tells how many.
 #[unsafe(no_mangle)]
-#[rattlefmt::skip]
-pub extern "C" fn om_keys<'a>(keys: &'a Keys, next_key: &'a KeyLinks, members: &'a Counts, out: &mut [u64], answer: &mut [u64; 4])
-    ensures { Reads (C.keys out.old) out.new [] answer.new (λ α. (keys.now ≡ α.keys)
-        × (next_key.now ≡ α.next_key) × (members.now ≡ α.members)) }
+pub extern "C" fn om_keys(map: &ListOrderedMultimap, out: &mut [u64], answer: &mut [u64; 4])
+    ensures { WellLinked map.now → Told linked (C.keys out.old) map.now map.now out.new [] answer.new }
 {
-    reading::om_keys(keys, next_key, members, out, answer);
+    answers::tell(answer, reading::keys(map, out));
 }
 
 // Tells how many members there are.
 #[unsafe(no_mangle)]
-#[rattlefmt::skip]
-pub extern "C" fn om_keys_len(members: &Counts, answer: &mut [u64; 4])
-    ensures { Reads C.keys_len [] [] answer.new (λ α. members.now ≡ α.members) }
+pub extern "C" fn om_keys_len(map: &ListOrderedMultimap, answer: &mut [u64; 4])
+    ensures { WellLinked map.now → Told linked C.keys_len map.now map.now [] [] answer.new }
 {
-    reading::om_keys_len(members, answer);
+    answers::tell(answer, Ok(reading::keys_len(map)));
 }
 
 // Tells how many rounds there are.
 #[unsafe(no_mangle)]
-#[rattlefmt::skip]
-pub extern "C" fn om_values_len(rounds: &Counts, answer: &mut [u64; 4])
-    ensures { Reads C.values_len [] [] answer.new (λ α. rounds.now ≡ α.rounds) }
+pub extern "C" fn om_values_len(map: &ListOrderedMultimap, answer: &mut [u64; 4])
+    ensures { WellLinked map.now → Told linked C.values_len map.now map.now [] [] answer.new }
 {
-    reading::om_values_len(rounds, answer);
+    answers::tell(answer, Ok(reading::values_len(map)));
 }
 
 // Writes the pairs in global order, the members to the front of `out` and the rounds to that of `out2`, and tells how many.
 #[unsafe(no_mangle)]
-#[rattlefmt::skip]
-pub extern "C" fn om_iter<'a>(
-    keys: &'a Keys, values: &'a Values, key_index: &'a KeyIndex, next_value: &'a ValueLinks, rounds: &'a Counts,
-    out: &mut [u64], out2: &mut [u64], answer: &mut [u64; 4],
+pub extern "C" fn om_iter(
+    map: &ListOrderedMultimap,
+    out: &mut [u64],
+    out2: &mut [u64],
+    answer: &mut [u64; 4],
 )
-    ensures { Reads (C.iter out.old out2.old) out.new out2.new answer.new
-        (λ α. (keys.now ≡ α.keys) × (values.now ≡ α.values) × (key_index.now ≡ α.key_index)
-        × (next_value.now ≡ α.next_value) × (rounds.now ≡ α.rounds)) }
+    ensures { WellLinked map.now → Told linked (C.iter out.old out2.old) map.now map.now out.new out2.new answer.new }
 {
-    reading::om_iter(keys, values, key_index, next_value, rounds, out, out2, answer);
+    answers::tell(answer, reading::iter(map, out, out2));
 }
 
 // Writes how many rounds were ever taken in, of each of the sixteen posters, and tells that they are sixteen.
 #[unsafe(no_mangle)]
-#[rattlefmt::skip]
-pub extern "C" fn om_taken(taken: &Taken, out: &mut [u64; 16], answer: &mut [u64; 4])
-    ensures { Reads (C.taken out.old) out.new [] answer.new (λ α. taken.now ≡ α.taken) }
+pub extern "C" fn om_taken(map: &ListOrderedMultimap, out: &mut [u64; 16], answer: &mut [u64; 4])
+    ensures { WellLinked map.now → Told linked (C.taken out.old) map.now map.now out.new [] answer.new }
 {
-    reading::om_taken(taken, out, answer);
+    answers::tell(answer, Ok(reading::taken(map, out)));
 }
 
 // Makes the call with the number `op`; from 24 on that is `values_len`. `poster`, `k` and `v` are its arguments.
 // A slice that it does not have is left as it is.
 #[unsafe(no_mangle)]
-#[rattlefmt::skip]
 pub extern "C" fn om_call(
-    keys: &mut Keys, lengths: &mut Lengths, next_key: &mut KeyLinks, previous_key: &mut KeyLinks,
-    values: &mut Values, key_index: &mut KeyIndex, next_value: &mut ValueLinks, previous_value: &mut ValueLinks,
-    next_index: &mut IndexLinks, previous_index: &mut IndexLinks, index: &mut Index,
-    members: &mut Counts, rounds: &mut Counts, taken: &mut Taken,
-    op: u64, poster: u64, k: u64, v: u64, out: &mut [u64], out2: &mut [u64], marks: &[u8], answer: &mut [u64; 4],
+    map: &mut ListOrderedMultimap,
+    op: u64,
+    poster: u64,
+    k: u64,
+    v: u64,
+    out: &mut [u64],
+    out2: &mut [u64],
+    marks: &[u8],
+    answer: &mut [u64; 4],
 )
-    requires { WellLinked (lent keys lengths next_key previous_key values key_index next_value previous_value next_index previous_index index members rounds taken) }
-    ensures { let g : Arrays = given keys lengths next_key previous_key values key_index next_value previous_value next_index previous_index index members rounds taken in Turned op poster k v g (left keys lengths next_key previous_key values key_index next_value previous_value next_index previous_index index members rounds taken) out.old out2.old marks.now out.new out2.new answer.new }
+    requires { WellLinked map.old }
+    ensures { Turned op poster k v map.old map.new out.old out2.old marks.now out.new out2.new answer.new }
 {
-    turn::om_call(
-        keys, lengths, next_key, previous_key, values, key_index, next_value, previous_value,
-        next_index, previous_index, index, members, rounds, taken, op, poster, k, v, out, out2, marks, answer,
-    );
+    answers::tell(answer, turn::call(map, op, poster, k, v, out, out2, marks));
 }
 
-// Makes the call with the number `op`; from 24 on that is `values_len`. The record is taken apart, the call is made in place on its arrays, and the record is
-// made anew. `answer` gets the answer's four numbers.
+// Makes the call with the number `op` on a map that goes in and comes back; from 24 on that is `values_len`. `answer` gets the answer's four numbers.
 #[unsafe(no_mangle)]
-#[rattlefmt::skip]
 pub extern "C" fn om_turn(
-    m: ListOrderedMultimap, op: u64, poster: u64, k: u64, v: u64, out: &mut [u64], out2: &mut [u64], marks: &[u8], answer: &mut [u64; 4],
+    m: ListOrderedMultimap,
+    op: u64,
+    poster: u64,
+    k: u64,
+    v: u64,
+    out: &mut [u64],
+    out2: &mut [u64],
+    marks: &[u8],
+    answer: &mut [u64; 4],
 ) -> ListOrderedMultimap
-    requires { WellLinked (arrays_of m) }
-    ensures { TurnedTyped op poster k v m result out.old out2.old marks.now out.new out2.new answer.new }
+    requires { WellLinked m }
+    ensures { Turned op poster k v m result out.old out2.old marks.now out.new out2.new answer.new }
 {
-    ordered_multimap::om_turn(m, op, poster, k, v, out, out2, marks, answer)
+    let mut map = m;
+    answers::tell(
+        answer,
+        turn::call(&mut map, op, poster, k, v, out, out2, marks),
+    );
+    map
 }
 
 // Runs the calls that the slices hold, on the map that `om_new` makes with these limits. The out slices, and after each call its answer, are written
 // to `outs`, `outs2` and `answers`. A list that is cut off or holds what is no call is run up to there. The answer is how many calls were run.
 #[unsafe(no_mangle)]
-#[rattlefmt::skip]
 pub extern "C" fn replay(
-    members_limit: u64, rounds_limit: u64, calls: &[u64], outs: &mut [u64], outs2: &mut [u64], marks: &[u8], answers: &mut [u64],
+    members_limit: u64,
+    rounds_limit: u64,
+    calls: &[u64],
+    outs: &mut [u64],
+    outs2: &mut [u64],
+    marks: &[u8],
+    answers: &mut [u64],
 ) -> u64
-    ensures { (m : Arrays) × Played (limit members_limit rounds_limit) calls.now outs.old outs2.old
-        marks.now answers.old outs.new outs2.new answers.new m result }
+    ensures { (m : ListOrderedMultimap) × Played (limit members_limit rounds_limit) calls.now outs.old outs2.old marks.now answers.old outs.new outs2.new answers.new m result }
 {
-    replay::replay(members_limit, rounds_limit, calls, outs, outs2, marks, answers)
+    replay::replay(
+        members_limit,
+        rounds_limit,
+        calls,
+        outs,
+        outs2,
+        marks,
+        answers,
+    )
 }
 
-// Writes the image of the map to the front of `out`: of every well-linked map that has the arrays lent.
+// Writes the image of the map to the front of `out`.
 #[unsafe(no_mangle)]
-#[rattlefmt::skip]
-pub extern "C" fn om_write_image<'a>(
-    keys: &'a Keys, values: &'a Values, key_index: &'a KeyIndex, next_value: &'a ValueLinks, members: &'a Counts, rounds: &'a Counts,
-    out: &mut [u8], answer: &mut [u64; 4],
-)
-    ensures { (α : Arrays) → (keys.now ≡ α.keys) × (values.now ≡ α.values) × (key_index.now ≡ α.key_index)
-        × (next_value.now ≡ α.next_value) × (members.now ≡ α.members) × (rounds.now ≡ α.rounds)
-        → WellLinked α → Writes α out.old out.new answer.new }
+pub extern "C" fn om_write_image(map: &ListOrderedMultimap, out: &mut [u8], answer: &mut [u64; 4])
+    ensures { WellLinked map.now → Writes map.now out.old out.new answer.new }
 {
-    image::om_write_image(keys, values, key_index, next_value, members, rounds, out, answer);
+    answers::tell(answer, image::write_image(map, out));
 }
 
 // Reads an image into these limits, whatever the arrays hold; a refused reading leaves the map that `om_new` makes with them.
 #[unsafe(no_mangle)]
-#[rattlefmt::skip]
 pub extern "C" fn om_read_image(
-    keys: &mut Keys, lengths: &mut Lengths, next_key: &mut KeyLinks, previous_key: &mut KeyLinks,
-    values: &mut Values, key_index: &mut KeyIndex, next_value: &mut ValueLinks, previous_value: &mut ValueLinks,
-    next_index: &mut IndexLinks, previous_index: &mut IndexLinks, index: &mut Index,
-    members: &mut Counts, rounds: &mut Counts, taken: &mut Taken,
-    members_limit: u64, rounds_limit: u64, bytes: &[u8], answer: &mut [u64; 4],
+    map: &mut ListOrderedMultimap,
+    members_limit: u64,
+    rounds_limit: u64,
+    bytes: &[u8],
+    answer: &mut [u64; 4],
 )
-    ensures { Restores (limit members_limit rounds_limit) bytes.now (left keys lengths next_key previous_key values key_index next_value previous_value next_index previous_index index members rounds taken) answer.new }
+    ensures { Restores (limit members_limit rounds_limit) bytes.now map.new answer.new }
 {
-    image::om_read_image(
-        keys, lengths, next_key, previous_key, values, key_index, next_value, previous_value,
-        next_index, previous_index, index, members, rounds, taken, members_limit, rounds_limit, bytes, answer,
+    answers::tell(
+        answer,
+        image::read_image(map, members_limit, rounds_limit, bytes),
     );
 }
 
 // Says whether a map is well-linked by a number: 1 for yes, 0 for no.
 #[unsafe(no_mangle)]
-#[rattlefmt::skip]
-pub extern "C" fn om_well_linked<'a>(
-    keys: &'a Keys, lengths: &'a Lengths, next_key: &'a KeyLinks, previous_key: &'a KeyLinks,
-    values: &'a Values, key_index: &'a KeyIndex, next_value: &'a ValueLinks, previous_value: &'a ValueLinks,
-    next_index: &'a IndexLinks, previous_index: &'a IndexLinks, index: &'a Index,
-    members: &'a Counts, rounds: &'a Counts, taken: &'a Taken,
-) -> u64
-    ensures { let g : Arrays = arrays keys.now lengths.now next_key.now previous_key.now values.now key_index.now next_value.now previous_value.now next_index.now previous_index.now index.now members.now rounds.now taken.now in Tells result (WellLinked g) }
+pub extern "C" fn om_well_linked(map: &ListOrderedMultimap) -> u64
+    ensures { Tells result (WellLinked map.now) }
 {
-    well_linked::om_well_linked(
-        keys, lengths, next_key, previous_key, values, key_index, next_value, previous_value,
-        next_index, previous_index, index, members, rounds, taken,
-    )
+    well_linked::well_linked(map) as u64
 }

@@ -2,4 +2,3 @@ pub mod Puts
 pub mod Decimals
 pub mod Runs
 pub mod Sayings
-pub mod Texts

@@ -1,13 +1,16 @@
 -- Laws of bytes written into a slice one after another. Assumes nothing.
-use Prim.Native.Nat.{ℕ, suc, ◌+◌, ◌≤◌, ◌<◌}
+use Prim.Native.Nat.{ℕ, suc, ◌+◌, ◌≤◌}
 use mathlib.Core.Path.{◌≡◌, refl, sym, ap, ◌∙◌}
-use mathlib.Core.List.{List, [], ◌∷◌, ◌++◌}
+use mathlib.Core.List.{List, [], ◌∷◌, ◌++◌, append_assoc}
 use native.Mathlib.Omega.{arith}
-use native.Mathlib.Numerals.{add-one}
 use native.Mathlib.Nat.{add-zero, add-suc, suc-add}
-use lib.ListN.{length, get_or, drop, set, length-append, drop_of_length-le}
-use lib.Seq.{sets, length-sets, drop-cons}
-use Rattle.printing.specs.Put.{Put}
+use lib.ListN.{length, take, drop, set, length-append}
+use lib.Seq.{sets, length-sets}
+use borrow.Rule.Slice.PartMut.{put_mid}
+use Rattle.std.proofs.lemmas.List.{drop-drop}
+use Rattle.std.proofs.lemmas.List.Edits.{sets-eq}
+use Rattle.printing.specs.Put.{Put, Wrote}
+use Rattle.printing.specs.declared.putting.Writer.{Writer}
 
 -- one list after another is both as one
 pub sets_append : (x y l : List ℕ) (i : ℕ) → sets (sets l i x) (i + length x) y ≡ sets l i (x ++ y)
@@ -25,21 +28,26 @@ put_join {a} {b} {c} {x} {y} {at} {r} {s} p q =
 pub put_long : {a b x : List ℕ} {at r : ℕ} → Put a at x b r → length b ≡ length a
 put_long {a} {b} {x} {at} p = ap length p.written ∙ length-sets a at x
 
--- a turn of `put`: the byte at i is stored, and the others are still to come
-pub turn : (out bytes : List ℕ) (at i : ℕ) → i < length bytes
-    → sets (set out (at + i) (get_or bytes i 0)) (at + (i + 1)) (drop (i + 1) bytes) ≡ sets out (at + i) (drop i bytes)
-turn out bytes at i h =
-    let e : at + (i + 1) ≡ suc (at + i) = omega arith in
-    rw (e, add-one i, drop-cons bytes i 0)
+-- bytes copied to their place
+pub put_copied : (out bytes ys : List ℕ) (at k : ℕ) → at + length bytes ≤ length out → k ≡ length bytes → ys ≡ bytes
+    → Put out at bytes (put_mid at k out ys) (at + length bytes)
+put_copied out bytes ys at k h e i =
+    let rest : drop k (drop at out) ≡ drop (at + length bytes) out = drop-drop k at out ∙ ap (λ (n : ℕ). drop (at + n) out) e in
+    record { written = rw (i, rest, sets-eq bytes out at h) (sym (append_assoc (take at out) bytes (drop (at + length bytes) out))); next = refl }
 
--- after the last turn
-pub at_end : (out₀ out bytes : List ℕ) (at i : ℕ) → i ≤ length bytes → length bytes ≤ i → sets out (at + i) (drop i bytes) ≡ sets out₀ at bytes
-    → Put out₀ at bytes out (at + i)
-at_end out₀ out bytes at i h g e =
-    record {
-      written = sym (ap (λ (l : List ℕ). sets out (at + i) l) (drop_of_length-le bytes {i = i} g)) ∙ e;
-      next = omega arith;
-    }
+-- the same of a writer: one text after another, none, and the same by another name
+module _ {a b : Writer} {x : List ℕ} (p : Wrote a x b) where
+  pub wrote_join : {c : Writer} {y : List ℕ} → Wrote b y c → Wrote a (x ++ y) c
+  wrote_join q = record { same_slice = q.same_slice ∙ p.same_slice; put = put_join p.put q.put }
+
+  pub wrote_as : {y : List ℕ} → x ≡ y → Wrote a y b
+  wrote_as e = rw e at p
+
+  pub wrote_long : length b.out.now ≡ length a.out.now
+  wrote_long = put_long p.put
+
+pub wrote_none : (a : Writer) → Wrote a [] a
+wrote_none a = record { same_slice = refl; put = record { written = refl; next = omega arith } }
 
 -- what is still to come of bytes that are written piece by piece
 pub record ToCome (out₀ : List ℕ) (at : ℕ) (all : List ℕ) (out : List ℕ) (place : ℕ) (rest : List ℕ) : Type 0 where
@@ -61,12 +69,3 @@ come_less {out₀} {all} {out} {out'} {x} {rest} {at} {place} {place'} t p =
 
 pub come_none : {out₀ all out : List ℕ} {at place : ℕ} → ToCome out₀ at all out place [] → Put out₀ at all out place
 come_none {out₀} {all} {out} {at} {place} t = record { written = t.come; next = omega (arith, t.ends) }
-
--- the same bytes by another name
-pub put_as : {a b x y : List ℕ} {at r : ℕ} → Put a at x b r → x ≡ y → Put a at y b r
-put_as {a} {b} {x} {y} {at} {r} p e = rw e at p
-
--- a byte, and others after it
-pub put_cons : {a b x : List ℕ} {at r m : ℕ} → Put (set a at m) (at + 1) x b r → Put a at (m ∷ x) b r
-put_cons {a} {b} {x} {at} {r} {m} p =
-    record { written = p.written ∙ ap (λ (n : ℕ). sets (set a at m) n x) (add-one at); next = omega (arith, p.next) }

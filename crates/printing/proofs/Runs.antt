@@ -1,45 +1,50 @@
--- The turns of the loops that write numbers, and pairs of them, one after another. Assumes nothing.
-use Prim.Native.Nat.{ℕ, ◌+◌, ◌≤◌, ◌<◌}
-use mathlib.Core.Path.{◌≡◌}
-use mathlib.Core.List.{List, ◌∷◌, ◌++◌}
+-- The turns of the loops that write numbers, and pairs of them, one after another; and how long the texts are. Assumes nothing.
+use Prim.Native.Nat.{ℕ, ◌+◌, ◌*◌, ◌≤◌, ◌<◌}
+use mathlib.Core.Path.{◌≡◌, sym, ap, ap₂, ◌∙◌}
+use mathlib.Core.List.{List, [], ◌∷◌, ◌++◌, append-nil}
 use native.Mathlib.Omega.{arith}
-use native.Mathlib.Numerals.{add-one}
-use lib.ListN.{length, get_or, drop, drop_of_length-le}
-use lib.Seq.{drop-cons}
-use Rattle.printing.specs.Text.{decimal, spaced, values, pairs}
-use Rattle.printing.specs.Put.{Put}
-use Rattle.printing.proofs.Puts.{ToCome, come_less, come_none}
+use lib.ListN.{length, get_or, take, length-append, length-take}
+use Rattle.std.specs.List.{flat_map, zip}
+use Rattle.std.proofs.lemmas.List.{take_more}
+use Rattle.std.proofs.lemmas.Grind.{flat_map-append}
+use Rattle.std.proofs.lemmas.Slice.Zip.{length-zip, get_or-zip}
+use Rattle.printing.specs.Text.{decimal, spaced, paired, values, pairs}
 use Rattle.printing.proofs.Decimals.{decimal_long}
 
 pub after_long : (m n : ℕ) → length (m ∷ decimal n) ≤ 21
 after_long m n = omega (arith, decimal_long 20 n)
 
--- what is still to come begins with the number at i
-values_next : (vs : List ℕ) (i : ℕ) → i < length vs → values (drop i vs) ≡ spaced (get_or vs i 0) ++ values (drop (i + 1) vs)
+paired_long : (p : ℕ × ℕ) → length (paired p) ≤ 42
+paired_long p = omega (arith, length-append (spaced p.0) (58 ∷ decimal p.1), after_long 32 p.0, after_long 58 p.1)
+
+-- pieces that are at most so long
+module _ {A : Type 0} (f : A → List ℕ) (most : ℕ) (h : (x : A) → length (f x) ≤ most) where
+  pieces_long : (xs : List A) → length (flat_map f xs) ≤ most * length xs
+  pieces_long [] = omega arith
+  pieces_long (x ∷ xs) = omega (arith, length-append (f x) (flat_map f xs), h x, pieces_long xs)
+
+-- a piece more
+pub piece_more : {A : Type 0} (f : A → List ℕ) (xs : List A) (i : ℕ) (d : A) → i < length xs
+    → flat_map f (take i xs) ++ f (get_or xs i d) ≡ flat_map f (take (i + 1) xs)
+piece_more f xs i d h =
+    ap (λ l. flat_map f (take i xs) ++ l) (sym (append-nil (f (get_or xs i d))))
+    ∙ sym (flat_map-append f (take i xs) (get_or xs i d ∷ []))
+    ∙ ap (flat_map f) (sym (take_more xs i d h))
+
+-- a pair more
+pub pair_more : (ks vs : List ℕ) (i k v : ℕ) → i < length ks → i < length vs → k ≡ get_or ks i 0 → v ≡ get_or vs i 0
+    → flat_map paired (take i (zip ks vs)) ++ paired (k, v) ≡ flat_map paired (take (i + 1) (zip ks vs))
+pair_more ks vs i k v h g d e =
+    ap (λ (p : ℕ × ℕ). flat_map paired (take i (zip ks vs)) ++ paired p) (ap₂ (λ (a b : ℕ). (a, b)) d e ∙ sym (get_or-zip ks vs i (0, 0) h g))
+    ∙ piece_more paired (zip ks vs) i (0, 0) (omega (arith, length-zip ks vs))
+
+pub few_pairs : (ks vs : List ℕ) (i : ℕ) → i ≤ length ks → length (flat_map paired (take i (zip ks vs))) ≤ 42 * i
+few_pairs ks vs i h = omega (arith, pieces_long paired 42 paired_long (take i (zip ks vs)), length-take i (zip ks vs))
+
+pub values_long : (vs : List ℕ) → length (values vs) ≤ 21 * length vs
 unfolding values
-values_next vs i h = rw (add-one i, drop-cons vs i 0)
+values_long vs = pieces_long spaced 21 (after_long 32) vs
 
-pairs_next : (ks vs : List ℕ) (i : ℕ) → i < length ks → i < length vs
-    → pairs (drop i ks) (drop i vs) ≡ spaced (get_or ks i 0) ++ ((58 ∷ decimal (get_or vs i 0)) ++ pairs (drop (i + 1) ks) (drop (i + 1) vs))
+pub pairs_long : (ks vs : List ℕ) → length (pairs ks vs) ≤ 42 * length ks
 unfolding pairs
-pairs_next ks vs i h g = rw (add-one i, drop-cons ks i 0, drop-cons vs i 0)
-
-module _ {out₀ all out out' : List ℕ} {at place place' : ℕ} where
-  pub values_turn : (vs : List ℕ) (i : ℕ) → i < length vs → ToCome out₀ at all out place (values (drop i vs)) → Put out place (32 ∷ decimal (get_or vs i 0)) out' place'
-      → ToCome out₀ at all out' place' (values (drop (i + 1) vs))
-  values_turn vs i h t p = come_less (rw (values_next vs i h) at t) p
-
-  pub pairs_turn : {out'' : List ℕ} {place'' : ℕ} (ks vs : List ℕ) (i : ℕ) → i < length ks → i < length vs
-      → ToCome out₀ at all out place (pairs (drop i ks) (drop i vs))
-      → Put out place (32 ∷ decimal (get_or ks i 0)) out' place' → Put out' place' (58 ∷ decimal (get_or vs i 0)) out'' place''
-      → ToCome out₀ at all out'' place'' (pairs (drop (i + 1) ks) (drop (i + 1) vs))
-  pairs_turn ks vs i h g t p q = come_less (come_less (rw (pairs_next ks vs i h g) at t) p) q
-
-module _ {out₀ all out : List ℕ} {at place : ℕ} where
-  pub values_end : (vs : List ℕ) (i : ℕ) → length vs ≤ i → ToCome out₀ at all out place (values (drop i vs)) → Put out₀ at all out place
-  unfolding values
-  values_end vs i h t = come_none (rw (drop_of_length-le vs {i = i} h) at t)
-
-  pub pairs_end : (ks vs : List ℕ) (i : ℕ) → length ks ≤ i → ToCome out₀ at all out place (pairs (drop i ks) (drop i vs)) → Put out₀ at all out place
-  unfolding pairs
-  pairs_end ks vs i h t = come_none (rw (drop_of_length-le ks {i = i} h) at t)
+pairs_long ks vs = omega (arith, pieces_long paired 42 paired_long (zip ks vs), length-zip ks vs)

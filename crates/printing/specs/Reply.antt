@@ -1,4 +1,4 @@
--- How an answer is printed (document 01, module 8).
+-- How an answer is printed.
 use Rattle.std.specs.Prelude.{ℕ, cond, List, [], ◌∷◌, ◌++◌, take}
 use Rattle.steps.specs.Call.{Answer, Lent, refused, none, done, round, count, present, popped, occupied, vacant}
 use Rattle.printing.specs.Text.{spaced, values, pairs}

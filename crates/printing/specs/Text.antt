@@ -1,5 +1,5 @@
 -- Numbers as text, in ASCII.
-use Rattle.std.specs.Prelude.{ℕ, zero, suc, ◌+◌, ◌/◌, ◌%◌, cond, List, [], ◌∷◌, ◌++◌, ltb}
+use Rattle.std.specs.Prelude.{ℕ, zero, suc, ◌+◌, ◌/◌, ◌%◌, cond, List, [], ◌∷◌, ◌++◌, ltb, flat_map, zip}
 
 -- n in base ten, of at most so many digits
 unfoldable pub decimal_of : ℕ → ℕ → List ℕ
@@ -16,11 +16,12 @@ spaced n = 32 ∷ decimal n
 
 -- each number after a space
 unfoldable pub values : List ℕ → List ℕ
-values [] = []
-values (v ∷ vs) = spaced v ++ values vs
+values vs = flat_map spaced vs
 
--- each member and its round after a space, with a colon between
+-- a member and its round after a space, with a colon between
+abbrev pub paired : ℕ × ℕ → List ℕ
+paired p = spaced p.0 ++ (58 ∷ decimal p.1)
+
+-- each member with its round
 unfoldable pub pairs : List ℕ → List ℕ → List ℕ
-pairs [] vs = []
-pairs (k ∷ ks) [] = []
-pairs (k ∷ ks) (v ∷ vs) = spaced k ++ ((58 ∷ decimal v) ++ pairs ks vs)
+pairs ks vs = flat_map paired (zip ks vs)

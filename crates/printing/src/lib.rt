@@ -4,82 +4,92 @@
 
 mod putting;
 
-ghost use Rattle.std.specs.Prelude.{◌≤◌, min, ◌≡◌, cond, [], ◌++◌, length};
-ghost use Rattle.steps.specs.Call.{lend, popped};
-ghost use Rattle.answers.specs.Answers.{answer_of};
+ghost use Rattle.std.specs.Prelude.{◌+◌, ◌≤◌, ◌≡◌, [], ◌++◌, length, take};
+ghost use Rattle.steps.specs.Call.{lend};
+ghost use Rattle.steps.specs.Call as C;
+ghost use Rattle.answers.specs.Answers.{answer_of, answered};
 ghost use Rattle.printing.specs.Text as Text;
 ghost use Rattle.printing.specs.Reply as Reply;
-ghost use Rattle.printing.specs.Said.{Said, Roomy, Prints};
+ghost use Rattle.printing.specs.Said.{Prints};
+ghost use Rattle.printing.specs.Put.{Wrote};
 
-use crate::putting::{put, put_after, put_pairs, put_values};
-use answers::Answer;
+use crate::putting::Writer;
+pub use crate::putting::decimal;
+use answers::{Answer, IntoAnswer, Popped, Refusal};
 
 // The longest printed line, with its line end: `list` and 1,024 pairs of two numbers of 20 digits.
 pub const MAX_PRINTED: usize = 43013;
 
 // Prints an answer to the front of `out`, and answers how many bytes it has; without room for the longest line nothing is printed. A count is
-// of the rounds kept. The last four are no line's answers.
-pub fn print_answer(out: &mut [u8], answer: Answer) -> usize
-    ensures { Prints out.old (Reply.text_of (Reply.kept (lend [] [])) (answer_of answer)) out.new result }
+// of the rounds kept.
+#[tactic(auto, using(crate::proofs::Sayings::answer_long, crate::proofs::Sayings::said, crate::proofs::Sayings::prints))]
+pub fn print_answer<A: IntoAnswer + Drop>(out: &mut [u8], outcome: Result<A, Refusal>) -> usize
+    ensures { Prints out.old (Reply.text_of (Reply.kept (lend [] [])) (answered A.answer outcome)) out.new result }
 {
     if out.len() < MAX_PRINTED {
         return 0;
     }
-    match answer {
-        Answer::Refused(n) => print_number(out, b"refused", n),
-        Answer::Nothing => print_word(out, b"none"),
-        Answer::Count(n) => print_number(out, b"kept", n),
-        Answer::Present(was) => print_present(out, was),
-        Answer::Popped(k, v, gone) => print_pair(out, k, v, gone),
-        Answer::Done => 0,
-        Answer::Round(_) => 0,
-        Answer::Occupied(_) => 0,
-        Answer::Vacant(_) => 0,
-    }
+    let mut line = Writer { out, at: 0 };
+    line.put_outcome(outcome);
+    line.at
 }
 
 // Prints an answer that counts the rounds written out, with these.
-pub fn print_old(out: &mut [u8], answer: Answer, rounds: &[u64; 1024]) -> usize
-    ensures { Prints out.old (Reply.text_of (Reply.old (lend rounds.now [])) (answer_of answer)) out.new result }
+pub fn print_old<A: IntoAnswer + Drop>(
+    out: &mut [u8],
+    outcome: Result<A, Refusal>,
+    rounds: &[u64; 1024],
+) -> usize
+    ensures { Prints out.old (Reply.text_of (Reply.old (lend rounds.now [])) (answered A.answer outcome)) out.new result }
 {
-    if out.len() < MAX_PRINTED {
-        return 0;
+    match into_answered(outcome) {
+        Ok(Answer::Count(n)) if MAX_PRINTED <= out.len() => {
+            let mut line = Writer { out, at: 0 };
+            line.put_count(b"old", n);
+            line.put_values(first(n, rounds));
+            line.at
+        }
+        outcome => print_answer(out, outcome),
     }
-    let Answer::Count(n) = answer else {
-        return print_answer(out, answer);
-    };
-    print_rounds(out, n, rounds)
 }
 
 // Prints an answer that counts the members written out, with these.
-pub fn print_members(out: &mut [u8], answer: Answer, members: &[u64; 1024]) -> usize
-    ensures { Prints out.old (Reply.text_of (Reply.keyed (lend members.now [])) (answer_of answer)) out.new result }
+pub fn print_members<A: IntoAnswer + Drop>(
+    out: &mut [u8],
+    outcome: Result<A, Refusal>,
+    members: &[u64; 1024],
+) -> usize
+    ensures { Prints out.old (Reply.text_of (Reply.keyed (lend members.now [])) (answered A.answer outcome)) out.new result }
 {
-    if out.len() < MAX_PRINTED {
-        return 0;
+    match into_answered(outcome) {
+        Ok(Answer::Count(n)) if MAX_PRINTED <= out.len() => {
+            let mut line = Writer { out, at: 0 };
+            line.put(b"keys");
+            line.put_values(first(n, members));
+            line.at
+        }
+        outcome => print_answer(out, outcome),
     }
-    let Answer::Count(n) = answer else {
-        return print_answer(out, answer);
-    };
-    print_keys(out, n, members)
 }
 
 // Prints an answer that counts the pairs written out, with these.
-pub fn print_pairs(
+pub fn print_pairs<A: IntoAnswer + Drop>(
     out: &mut [u8],
-    answer: Answer,
+    outcome: Result<A, Refusal>,
     members: &[u64; 1024],
     rounds: &[u64; 1024],
 ) -> usize
-    ensures { Prints out.old (Reply.text_of (Reply.listed (lend members.now rounds.now)) (answer_of answer)) out.new result }
+    ensures { Prints out.old (Reply.text_of (Reply.listed (lend members.now rounds.now)) (answered A.answer outcome)) out.new result }
 {
-    if out.len() < MAX_PRINTED {
-        return 0;
+    match into_answered(outcome) {
+        Ok(Answer::Count(n)) if MAX_PRINTED <= out.len() => {
+            let mut line = Writer { out, at: 0 };
+            line.put(b"list");
+            line.put_pairs(first(n, members), first(n, rounds));
+            line.at
+        }
+        outcome => print_answer(out, outcome),
     }
-    let Answer::Count(n) = answer else {
-        return print_answer(out, answer);
-    };
-    print_list(out, n, members, rounds)
 }
 
 // Prints what a line gets that asks nothing.
@@ -89,82 +99,70 @@ pub fn print_bad(out: &mut [u8]) -> usize
     if out.len() < MAX_PRINTED {
         return 0;
     }
-    print_word(out, b"line?")
+    let mut line = Writer { out, at: 0 };
+    line.put(b"line?");
+    line.at
 }
 
-fn least(a: usize, b: usize) -> usize
-    ensures { result ≡ min a b }
+// Refers to the first n numbers, or to all where there are fewer.
+fn first(n: u64, numbers: &[u64]) -> &[u64]
+    ensures { result.now ≡ take n numbers.now }
 {
-    if a < b { a } else { b }
+    &numbers[..numbers.len().min(n as usize)]
 }
 
-fn print_word(out: &mut [u8], word: &[u8]) -> usize
-    requires { Roomy out.old × (length word.now ≤ 7) }
-    ensures { Said out.old word.now out.new result }
+// Gives what a call answers as the answer of any call.
+fn into_answered<A: IntoAnswer>(outcome: Result<A, Refusal>) -> Result<Answer, Refusal>
+    ensures { answered answer_of result ≡ answered A.answer outcome }
 {
-    put(out, 0, word)
-}
-
-fn print_number(out: &mut [u8], word: &[u8], n: u64) -> usize
-    requires { Roomy out.old × (length word.now ≤ 7) }
-    ensures { Said out.old (word.now ++ Text.spaced n) out.new result }
-{
-    let at = put(out, 0, word);
-    put_after(out, at, b' ', n)
-}
-
-fn print_present(out: &mut [u8], was: bool) -> usize
-    requires { Roomy out.old }
-    ensures { Said out.old (cond was Reply.present_text Reply.new_text) out.new result }
-{
-    if was {
-        print_word(out, b"present")
-    } else {
-        print_word(out, b"new")
+    match outcome {
+        Ok(a) => Ok(a.into_answer()),
+        Err(refusal) => Err(refusal),
     }
 }
 
-// Prints `pop`, the member, the round, and whether the member is gone.
-fn print_pair(out: &mut [u8], k: u64, v: u64, gone: bool) -> usize
-    requires { Roomy out.old }
-    ensures { Said out.old (Reply.text_of (Reply.kept (lend [] [])) (popped k v gone)) out.new result }
-{
-    let word = put(out, 0, b"pop");
-    let member = put_after(out, word, b' ', k);
-    let round = put_after(out, member, b' ', v);
-    if gone {
-        put(out, round, b" gone")
-    } else {
-        put(out, round, b" stays")
+impl Writer<'_> {
+    // Writes a word, and a number after a space.
+    fn put_count(&mut self, word: &[u8], n: u64)
+        requires { self.old.at + (length word.now + 21) ≤ length self.old.out.now }
+        ensures { Wrote self.old (word.now ++ Text.spaced n) self.new }
+    {
+        self.put(word);
+        self.put_after(b' ', n);
     }
-}
 
-// Prints `old`, the count and the rounds.
-fn print_rounds(out: &mut [u8], n: u64, rounds: &[u64]) -> usize
-    requires { Roomy out.old × (length rounds.now ≤ 1024) }
-    ensures { Said out.old (Reply.old (lend rounds.now []) n) out.new result }
-{
-    let at = print_number(out, b"old", n);
-    let many = least(n as usize, rounds.len());
-    put_values(out, at, &rounds[..many])
-}
+    // Writes `pop`, the member, the round, and whether the member is gone.
+    fn put_popped(&mut self, p: Popped)
+        requires { self.old.at + 51 ≤ length self.old.out.now }
+        ensures { Wrote self.old (Reply.text_of (Reply.kept (lend [] [])) (C.popped p.member p.round p.gone)) self.new }
+    {
+        self.put_count(b"pop", p.member);
+        self.put_after(b' ', p.round);
+        self.put(if p.gone { b" gone" } else { b" stays" });
+    }
 
-// Prints `keys` and the members.
-fn print_keys(out: &mut [u8], n: u64, members: &[u64]) -> usize
-    requires { Roomy out.old × (length members.now ≤ 1024) }
-    ensures { Said out.old (Reply.keyed (lend members.now []) n) out.new result }
-{
-    let at = print_word(out, b"keys");
-    let many = least(n as usize, members.len());
-    put_values(out, at, &members[..many])
-}
+    // Writes an answer, or the number of a refusal.
+    fn put_outcome<A: IntoAnswer>(&mut self, outcome: Result<A, Refusal>)
+        requires { self.old.at + 51 ≤ length self.old.out.now }
+        ensures { Wrote self.old (Reply.text_of (Reply.kept (lend [] [])) (answered A.answer outcome)) self.new }
+    {
+        match outcome {
+            Ok(a) => self.put_answer(a.into_answer()),
+            Err(refusal) => self.put_count(b"refused", refusal.number()),
+        }
+    }
 
-// Prints `list` and the pairs.
-fn print_list(out: &mut [u8], n: u64, members: &[u64], rounds: &[u64]) -> usize
-    requires { Roomy out.old × (length members.now ≤ 1024) × (length members.now ≡ length rounds.now) }
-    ensures { Said out.old (Reply.listed (lend members.now rounds.now) n) out.new result }
-{
-    let at = print_word(out, b"list");
-    let many = least(n as usize, members.len());
-    put_pairs(out, at, &members[..many], &rounds[..many])
+    // Writes an answer. Those of the last arm are no line's.
+    fn put_answer(&mut self, answer: Answer)
+        requires { self.old.at + 51 ≤ length self.old.out.now }
+        ensures { Wrote self.old (Reply.text_of (Reply.kept (lend [] [])) (answer_of answer)) self.new }
+    {
+        match answer {
+            Answer::Nothing => self.put(b"none"),
+            Answer::Count(n) => self.put_count(b"kept", n),
+            Answer::Present(was) => self.put(if was { b"present" } else { b"new" }),
+            Answer::Popped(p) => self.put_popped(p),
+            Answer::Done | Answer::Round(_) | Answer::Occupied(_) | Answer::Vacant(_) => {}
+        }
+    }
 }

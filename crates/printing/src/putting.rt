@@ -1,64 +1,68 @@
-// Bytes and numbers written into a slice from a place on. Each function answers the place after what it wrote.
-ghost use Rattle.std.specs.Prelude.{◌∷◌, ◌+◌, ◌*◌, ◌≤◌, ◌≡◌, length};
+// Bytes and numbers written into a slice one after another. Not by `write!`: each of its calls may fail, and here there is room for all of them.
+ghost use Rattle.std.specs.Prelude.{◌∷◌, [], ◌+◌, ◌*◌, ◌≤◌, ◌≡◌, length};
 ghost use Rattle.printing.specs.Text as Text;
-ghost use Rattle.printing.specs.Put.{Put};
+ghost use Rattle.printing.specs.Put.{Wrote};
 
-pub(crate) fn put(out: &mut [u8], at: usize, bytes: &[u8]) -> usize
-    requires { at + length bytes.now ≤ length out.old }
-    ensures { Put out.old at bytes.now out.new result }
+// A slice, and how many of its first bytes are written.
+#[derive(Drop)]
+pub(crate) struct Writer<'a> {
+    pub(crate) out: &'a mut [u8],
+    pub(crate) at: usize,
+}
+
+// Writes a number in base ten to the front of `digits`.
+pub fn decimal(n: u64, digits: &mut [u8; 20]) -> &[u8]
+    ensures { result.now ≡ Text.decimal n }
 {
-    let mut i = 0;
-    while i < bytes.len() {
-        out[at + i] = bytes[i];
-        i += 1;
+    let count = io::decimal(n, digits);
+    &digits[..count]
+}
+
+impl Writer<'_> {
+    pub(crate) fn put(&mut self, bytes: &[u8])
+        requires { self.old.at + length bytes.now ≤ length self.old.out.now }
+        ensures { Wrote self.old bytes.now self.new }
+    {
+        let end = self.at + bytes.len();
+        self.out[self.at..end].copy_from_slice(bytes);
+        self.at = end;
     }
-    at + i
-}
 
-// Writes a number in base ten.
-pub(crate) fn put_number(out: &mut [u8], at: usize, n: u64) -> usize
-    requires { at + 20 ≤ length out.old }
-    ensures { Put out.old at (Text.decimal n) out.new result }
-{
-    let mut text = [0u8; 20];
-    let k = io::decimal(n, &mut text);
-    put(out, at, &text[..k])
-}
-
-// Writes a number after a byte: a space or a colon.
-pub(crate) fn put_after(out: &mut [u8], at: usize, mark: u8, n: u64) -> usize
-    requires { at + 21 ≤ length out.old }
-    ensures { Put out.old at (mark ∷ Text.decimal n) out.new result }
-{
-    out[at] = mark;
-    put_number(out, at + 1, n)
-}
-
-// Writes each number after a space.
-pub(crate) fn put_values(out: &mut [u8], at: usize, values: &[u64]) -> usize
-    requires { at + 21 * length values.now ≤ length out.old }
-    ensures { Put out.old at (Text.values values.now) out.new result }
-{
-    let mut place = at;
-    let mut i = 0;
-    while i < values.len() {
-        place = put_after(out, place, b' ', values[i]);
-        i += 1;
+    // Writes a number after a byte: a space or a colon.
+    pub(crate) fn put_after(&mut self, mark: u8, n: u64)
+        requires { self.old.at + 21 ≤ length self.old.out.now }
+        ensures { Wrote self.old (mark ∷ Text.decimal n) self.new }
+    {
+        self.put(&[mark]);
+        self.put(decimal(n, &mut [0; 20]));
     }
-    place
-}
 
-// Writes each member and its round after a space, with a colon between.
-pub(crate) fn put_pairs(out: &mut [u8], at: usize, members: &[u64], rounds: &[u64]) -> usize
-    requires { (length members.now ≡ length rounds.now) × (at + 42 * length members.now ≤ length out.old) }
-    ensures { Put out.old at (Text.pairs members.now rounds.now) out.new result }
-{
-    let mut place = at;
-    let mut i = 0;
-    while i < members.len() {
-        let colon = put_after(out, place, b' ', members[i]);
-        place = put_after(out, colon, b':', rounds[i]);
-        i += 1;
+    // Writes each number after a space.
+    pub(crate) fn put_values(&mut self, values: &[u64])
+        requires { self.old.at + 21 * length values.now ≤ length self.old.out.now }
+        ensures { Wrote self.old (Text.values values.now) self.new }
+    {
+        for &value in values {
+            self.put_after(b' ', value);
+        }
     }
-    place
+
+    // Writes a member and its round after a space, with a colon between.
+    fn put_pair(&mut self, member: u64, round: u64)
+        requires { self.old.at + 42 ≤ length self.old.out.now }
+        ensures { Wrote self.old (Text.paired (member, round)) self.new }
+    {
+        self.put_after(b' ', member);
+        self.put_after(b':', round);
+    }
+
+    // Writes each member with its round.
+    pub(crate) fn put_pairs(&mut self, members: &[u64], rounds: &[u64])
+        requires { self.old.at + 42 * length members.now ≤ length self.old.out.now }
+        ensures { Wrote self.old (Text.pairs members.now rounds.now) self.new }
+    {
+        for (&member, &round) in members.iter().zip(rounds) {
+            self.put_pair(member, round);
+        }
+    }
 }

@@ -1,26 +1,26 @@
--- What each call that only reads has to tell of a well-linked map. Assumes nothing.
+-- What each call that only reads does of a well-linked map. Assumes nothing.
 use Prim.Native.Nat.{ℕ, ◌≤◌, ◌<◌}
-use mathlib.Core.Path.{◌≡◌, refl, sym, ap, ◌∙◌}
+use mathlib.Core.Path.{◌≡◌, refl, ◌∙◌}
 use mathlib.Core.Logic.{◌⊎◌, ⊎_elim}
 use mathlib.Core.Bool.{Bool, true, false, cond, ◌||◌, or-true}
-use mathlib.Core.List.{List, [], map}
+use mathlib.Core.List.{List, map}
 use mathlib.Core.Option.{some, none}
 use borrow.Author.Tests.{lt-ltb, le-ltb}
 use lib.ListN.{length, take}
 use Rattle.steps.specs.State as St
 use Rattle.steps.specs.State.{State}
 use Rattle.steps.specs.Call as C
-use Rattle.steps.specs.Call.{Call, Answer, Outcome, lend, refused, count}
+use Rattle.steps.specs.Call.{Call, Answer, Outcome, refused, count}
 use Rattle.steps.specs.Step.{step, checks, act, settle, refusing, say, write, first, short, over, onto, entry_of}
-use Rattle.steps.specs.Coded.{coded}
-use Rattle.steps.specs.Told.{Told}
-use Rattle.steps.proofs.Doing.{packs, does_stay}
+use Rattle.steps.specs.Trace.{Does}
+use Rattle.steps.proofs.Doing.{does_stay}
 use Rattle.links.specs.Route.{walk}
-use Rattle.multimap.specs.Arrays.{Arrays}
-use Rattle.multimap.specs.Map.{at, pairs, members, state_of}
+use Rattle.multimap.specs.declared.ListOrderedMultimap.{ListOrderedMultimap}
+use Rattle.multimap.specs.Map.{at, pairs, state_of}
 use Rattle.multimap.specs.WellLinked.{WellLinked, linked}
 use Rattle.multimap.proofs.Stores.{pair_keys, pair_values, length_pairs, length_members}
 use Rattle.copying.specs.Slices.{along, writing}
+use Rattle.reading.specs.Reads.{pairs_written}
 
 -- a call that writes to one slice
 module _ (out : List ℕ) (s : State) where
@@ -44,11 +44,7 @@ module _ (out : List ℕ) (s : State) where
 
 -- to two
 abbrev listed : State → List ℕ → List ℕ → Outcome
-listed s ks vs =
-    record {
-      answer = count (length s.pairs);
-      slices = lend (over (map (λ p. p.key) s.pairs) ks) (over (map (λ p. p.value) s.pairs) vs);
-    }
+listed s ks vs = pairs_written (count (length s.pairs)) (over (map (λ p. p.key) s.pairs) ks) (over (map (λ p. p.value) s.pairs) vs)
 
 module _ (ks vs : List ℕ) (s : State) where
   step_iter_short : (short ks s.pairs || short vs s.pairs) ≡ true → step (C.iter ks vs) s ≡ (refusing (C.iter ks vs) 3, s)
@@ -59,90 +55,68 @@ module _ (ks vs : List ℕ) (s : State) where
   unfolding step checks act
   step_iter e = rw e
 
-module _ (α : Arrays) (g : WellLinked α) where
-  -- a call after which the map is as it was
-  told_same : (c : Call) (o : Outcome) → packs c ≡ false → step c (state_of α) ≡ (o, state_of α) → (ans : List ℕ) → ans ≡ coded o.answer
-      → Told linked c α α o.slices.out o.slices.out2 ans
-  told_same c o p e ans a = record { outcome = o; does = does_stay linked c α o p g e; out_is = refl; out2_is = refl; ans_is = a }
-
+module _ (α : ListOrderedMultimap) (g : WellLinked α) where
   -- the calls that look a member up
-  module _ (k : ℕ) (ans : List ℕ) where
-    pub told_get : ans ≡ coded (first (St.rounds k (pairs α))) → Told linked (C.get k) α α [] [] ans
+  module _ (k : ℕ) {a : Answer} where
+    pub does_get : a ≡ first (St.rounds k (pairs α)) → Does linked (C.get k) α (say a) α
     unfolding step checks act
-    told_get = told_same (C.get k) (say (first (St.rounds k (pairs α)))) refl refl ans
+    does_get e = does_stay linked (C.get k) α (say a) refl g (rw e)
 
-    pub told_entry : ans ≡ coded (entry_of (St.present k (state_of α)) k (state_of α)) → Told linked (C.entry k) α α [] [] ans
+    pub does_entry : a ≡ entry_of (St.present k (state_of α)) k (state_of α) → Does linked (C.entry k) α (say a) α
     unfolding step checks act
-    told_entry = told_same (C.entry k) (say (entry_of (St.present k (state_of α)) k (state_of α))) refl refl ans
+    does_entry e = does_stay linked (C.entry k) α (say a) refl g (rw e)
 
-    pub told_entry_len : ans ≡ coded (count (length (St.rounds k (pairs α)))) → Told linked (C.entry_len k) α α [] [] ans
-    unfolding step checks act
-    told_entry_len = told_same (C.entry_len k) (say (count (length (St.rounds k (pairs α))))) refl refl ans
+  pub does_entry_len : (k : ℕ) {n : ℕ} → n ≡ length (St.rounds k (pairs α)) → Does linked (C.entry_len k) α (say (count n)) α
+  unfolding step checks act
+  does_entry_len k {n} e = does_stay linked (C.entry_len k) α (say (count n)) refl g (rw e)
 
-    pub told_contains : ans ≡ coded (C.present (St.present k (state_of α))) → Told linked (C.contains_key k) α α [] [] ans
-    unfolding step checks act
-    told_contains = told_same (C.contains_key k) (say (C.present (St.present k (state_of α)))) refl refl ans
+  pub does_contains : (k : ℕ) {b : Bool} → b ≡ St.present k (state_of α) → Does linked (C.contains_key k) α (say (C.present b)) α
+  unfolding step checks act
+  does_contains k {b} e = does_stay linked (C.contains_key k) α (say (C.present b)) refl g (rw e)
 
   -- the counts
-  module _ (ans : List ℕ) where
-    pub told_keys_len : ans ≡ coded (count (at α.members 0)) → Told linked C.keys_len α α [] [] ans
-    unfolding step checks act
-    told_keys_len e =
-        told_same C.keys_len (say (count (length (members α)))) refl refl ans (e ∙ ap (λ (n : ℕ). coded (count n)) (sym (length_members α)))
+  pub does_keys_len : Does linked C.keys_len α (say (count α.members.len)) α
+  unfolding step checks act
+  does_keys_len = does_stay linked C.keys_len α (say (count α.members.len)) refl g (rw (length_members α))
 
-    pub told_values_len : ans ≡ coded (count (at α.rounds 0)) → Told linked C.values_len α α [] [] ans
-    unfolding step checks act
-    told_values_len e =
-        told_same C.values_len (say (count (length (pairs α)))) refl refl ans (e ∙ ap (λ (n : ℕ). coded (count n)) (sym (length_pairs α)))
+  pub does_values_len : Does linked C.values_len α (say (count α.rounds.len)) α
+  unfolding step checks act
+  does_values_len = does_stay linked C.values_len α (say (count α.rounds.len)) refl g (rw (length_pairs α))
 
   -- the calls that write to slices
-  module _ (a : Answer) (out₀ out ans : List ℕ) (e : ans ≡ coded a) where
-    -- copied from the first place on, out of arrays that are the map's
-    pub told_keys : {keys next counts : List ℕ} → (keys ≡ α.keys) × (next ≡ α.next_key) × (counts ≡ α.members)
-        → {q n : ℕ} → q ≡ at next 256 → n ≡ at counts 0 → write a out ≡ writing (along keys next q n) out₀
-        → Told linked (C.keys out₀) α α out [] ans
-    told_keys {keys} {next} same {q} {n} i j w =
-        let all : along keys next q n ≡ members α = rw (i, j, same.0, same.1, same.2) in
-        told_same (C.keys out₀) (write a out) refl (step_keys out₀ (state_of α) ∙ rw (← all, ← w)) ans e
+  module _ (a : Answer) (out₀ out : List ℕ) where
+    -- copied from the first place on
+    pub does_keys : {q : ℕ} → q ≡ at α.next_key 256 → write a out ≡ writing (along (at α.keys) (at α.next_key) q α.members.len) out₀
+        → Does linked (C.keys out₀) α (write a out) α
+    does_keys i w = does_stay linked (C.keys out₀) α (write a out) refl g (step_keys out₀ (state_of α) ∙ rw (w, i))
 
-    pub told_get_all : (k : ℕ) → write a out ≡ writing (St.rounds k (pairs α)) out₀ → Told linked (C.get_all k out₀) α α out [] ans
-    told_get_all k w =
-        told_same (C.get_all k out₀) (write a out) refl (step_get_all out₀ (state_of α) k ∙ rw (← w)) ans e
+    pub does_get_all : (k : ℕ) → write a out ≡ writing (St.rounds k (pairs α)) out₀ → Does linked (C.get_all k out₀) α (write a out) α
+    does_get_all k w = does_stay linked (C.get_all k out₀) α (write a out) refl g (step_get_all out₀ (state_of α) k ∙ rw w)
 
   -- T, as much as the slice holds
-  pub told_taken : {t : List ℕ} → t ≡ α.taken → (out₀ : List ℕ) → {n : ℕ} → n ≡ length (take (length out₀) t)
-      → {out : List ℕ} → out ≡ onto t out₀ → (ans : List ℕ) → ans ≡ coded (count n) → Told linked (C.taken out₀) α α out [] ans
+  pub does_taken : (out₀ : List ℕ) → {n : ℕ} → n ≡ length (take (length out₀) α.taken)
+      → {out : List ℕ} → out ≡ onto α.taken out₀ → Does linked (C.taken out₀) α (write (count n) out) α
   unfolding step checks act
-  told_taken same out₀ {n} many {out} e =
-      told_same (C.taken out₀) (write (count n) out) refl (rw (← same, ← many, ← e))
+  does_taken out₀ {n} many {out} e = does_stay linked (C.taken out₀) α (write (count n) out) refl g (rw (many, e))
 
-  module _ (ks vs : List ℕ) (n : ℕ) (held : n ≡ at α.rounds 0) (ans : List ℕ) where
-    long : length (pairs α) ≡ n
-    long = length_pairs α ∙ sym held
-
-    pub told_iter_short : (length ks < n) ⊎ (length vs < n) → ans ≡ coded (refused 3) → Told linked (C.iter ks vs) α α ks vs ans
-    told_iter_short h =
-        told_same (C.iter ks vs) (refusing (C.iter ks vs) 3) refl
+  module _ (ks vs : List ℕ) where
+    pub does_iter_short : (length ks < α.rounds.len) ⊎ (length vs < α.rounds.len) → Does linked (C.iter ks vs) α (refusing (C.iter ks vs) 3) α
+    does_iter_short h =
+        does_stay linked (C.iter ks vs) α (refusing (C.iter ks vs) 3) refl g
         (step_iter_short ks vs (state_of α)
-        (⊎_elim (λ (l : length ks < n). rw (lt-ltb (length ks) (length (pairs α)) (rw long l)))
-        (λ (l : length vs < n). rw (lt-ltb (length vs) (length (pairs α)) (rw long l)) (or-true (short ks (pairs α)))) h)) ans
+        (⊎_elim (λ (l : length ks < α.rounds.len). rw (lt-ltb (length ks) (length (pairs α)) (rw (length_pairs α) l)))
+        (λ (l : length vs < α.rounds.len). rw (lt-ltb (length vs) (length (pairs α)) (rw (length_pairs α) l)) (or-true (short ks (pairs α)))) h))
 
-    module _ (ks' vs' : List ℕ) (keys_fit : n ≤ length ks) (values_fit : n ≤ length vs) where
-      written : ks' ≡ over (map (λ p. p.key) (pairs α)) ks → vs' ≡ over (map (λ p. p.value) (pairs α)) vs
-          → ans ≡ coded (count n) → Told linked (C.iter ks vs) α α ks' vs' ans
-      written e f =
-          told_same (C.iter ks vs) (record { answer = count n; slices = lend ks' vs' }) refl
+    -- copied from the first place on
+    module _ (keys_fit : α.rounds.len ≤ length ks) (values_fit : α.rounds.len ≤ length vs) {q : ℕ} (i : q ≡ at α.next_value 1024) {ks' vs' : List ℕ} where
+      pub does_iter : ks' ≡ over (map (λ x. at α.keys (at α.key_index x)) (walk (at α.next_value) q α.rounds.len)) ks
+          → vs' ≡ over (map (at α.values) (walk (at α.next_value) q α.rounds.len)) vs
+          → Does linked (C.iter ks vs) α (pairs_written (count α.rounds.len) ks' vs') α
+      does_iter e f =
+          let xs : List ℕ = walk (at α.next_value) q α.rounds.len in
+          let ks_are : map (λ x. at α.keys (at α.key_index x)) xs ≡ map (λ p. p.key) (pairs α) = rw i (pair_keys α) in
+          let vs_are : map (at α.values) xs ≡ map (λ p. p.value) (pairs α) = rw i (pair_values α) in
+          does_stay linked (C.iter ks vs) α (pairs_written (count α.rounds.len) ks' vs') refl g
           (step_iter ks vs (state_of α)
-          (rw (le-ltb (length ks) (length (pairs α)) (rw long keys_fit)) (le-ltb (length vs) (length (pairs α)) (rw long values_fit)))
-          ∙ rw (← e, ← f, long)) ans
-
-      -- copied from the first place on, out of arrays that are the map's
-      pub told_iter : {keys values owners next : List ℕ}
-          → keys ≡ α.keys → values ≡ α.values → owners ≡ α.key_index → next ≡ α.next_value
-          → {q : ℕ} → q ≡ at next 1024 → ks' ≡ over (map (λ x. at keys (at owners x)) (walk (at next) q n)) ks
-          → vs' ≡ over (map (at values) (walk (at next) q n)) vs → ans ≡ coded (count n) → Told linked (C.iter ks vs) α α ks' vs' ans
-      told_iter {keys} {values} {owners} {next} a b c d {q} i e f =
-          let xs : List ℕ = walk (at next) q n in
-          let ks_are : map (λ x. at keys (at owners x)) xs ≡ map (λ p. p.key) (pairs α) = rw (i, held, a, c, d) (pair_keys α) in
-          let vs_are : map (at values) xs ≡ map (λ p. p.value) (pairs α) = rw (i, held, b, d) (pair_values α) in
-          written (rw ks_are at e) (rw vs_are at f)
+          (rw (le-ltb (length ks) (length (pairs α)) (rw (length_pairs α) keys_fit)) (le-ltb (length vs) (length (pairs α)) (rw (length_pairs α) values_fit)))
+          ∙ rw (e, f, ks_are, vs_are, length_pairs α))

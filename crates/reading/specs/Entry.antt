@@ -5,11 +5,12 @@ use Rattle.links.specs.Stores.{at}
 use Rattle.index.specs.declared.Found.{Found}
 use Rattle.index.specs.declared.Found.TheVariants.{At, Absent}
 use Rattle.index.specs.Search.{search}
+use Rattle.multimap.specs.declared.ListOrderedMultimap.{ListOrderedMultimap}
 
 -- by what the search says: of a member, how many rounds it has
 abbrev pub entry_by : List ℕ → ℕ → Found → Answer
-entry_by lengths k (At p x n) = occupied (at lengths x.0)
+entry_by lengths k (At p x n) = occupied (at lengths x)
 entry_by lengths k (Absent p n) = vacant k
 
-abbrev pub entry_in : (keys lengths index : List ℕ) → ℕ → Answer
-entry_in keys lengths index k = entry_by lengths k (search index keys k)
+abbrev pub entry_in : ListOrderedMultimap → ℕ → Answer
+entry_in m k = entry_by m.lengths k (search m.index m.keys k)

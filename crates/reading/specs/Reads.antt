@@ -1,10 +1,14 @@
--- What a call that only reads tells, its answer by four numbers.
+-- What a call that only reads does.
 use Rattle.std.specs.Prelude.{ℕ, List}
-use Rattle.steps.specs.Call.{Call}
-use Rattle.steps.specs.Told.{Told}
-use Rattle.multimap.specs.Arrays.{Arrays}
+use Rattle.steps.specs.Call.{Call, Answer, Outcome, lend}
+use Rattle.steps.specs.Trace.{Does}
+use Rattle.multimap.specs.declared.ListOrderedMultimap.{ListOrderedMultimap}
 use Rattle.multimap.specs.WellLinked.{WellLinked, linked}
 
--- Of every well-linked map that has the arrays which the call was lent: the step's answer and slices, and the map is as it was.
-abbrev pub Reads : Call → (out out2 answer : List ℕ) → (Arrays → Type 0) → Type 0
-Reads c out out2 answer Has = (α : Arrays) → Has α → WellLinked α → Told linked c α α out out2 answer
+-- of a well-linked map: the step's answer and slices, and the map is as it was
+abbrev pub Reads : Call → Outcome → ListOrderedMultimap → Type 0
+Reads c o m = WellLinked m → Does linked c m o m
+
+-- the answer of `iter`, and its two slices
+abbrev pub pairs_written : Answer → List ℕ → List ℕ → Outcome
+pairs_written a members rounds = record { answer = a; slices = lend members rounds }

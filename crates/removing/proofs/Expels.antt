@@ -8,9 +8,8 @@ use lib.Dec.{eqb}
 use lib.ListN.{length, get_or}
 use Rattle.steps.specs.State.{State, Pair, has, of, others, rounds, remove_member, keep as keeping}
 use Rattle.steps.specs.Call.{remove, none, round}
-use Rattle.steps.specs.Coded.{coded}
 use Rattle.steps.specs.Step.{step, checks, act, say, first}
-use Rattle.steps.specs.Told.{Told}
+use Rattle.steps.specs.Trace.{Does}
 use Rattle.steps.proofs.Doing.{does_stay, does_change}
 use Rattle.steps.proofs.Removals.{keep_all, keep_others}
 use Rattle.links.specs.Route.{pick, tally, keep, without, strip, Route}
@@ -24,7 +23,7 @@ use Rattle.links.proofs.Strips.{strip_those}
 use Rattle.index.specs.Search.{search as searched}
 use Rattle.index.specs.declared.KeyPlace.{KeyPlace}
 use Rattle.index.specs.declared.Found.TheVariants.{At, Absent}
-use Rattle.multimap.specs.Arrays.{Arrays}
+use Rattle.multimap.specs.declared.ListOrderedMultimap.{ListOrderedMultimap}
 use Rattle.multimap.specs.Changes.{base_of, Left}
 use Rattle.multimap.specs.Map.{pair_at, pairs, rounds_of, members_of, links_of, state_of}
 use Rattle.multimap.specs.Popping.{PairGone}
@@ -36,25 +35,19 @@ use Rattle.multimap.proofs.Leaving.{all_have}
 use Rattle.multimap.proofs.Records.{Member, NoMember, found, not_found, first_round, own_round, filter_map}
 use Rattle.removing.specs.Expel.{Expelled, RecordOut}
 
--- ---- the turns: with so many rounds still to leave, from the place x on, what they make of o is what all make of a
+-- ---- the turns: with i of n rounds gone, and the place x next, what the others make of o is what all make of a
 
-pub record Going (n q : ℕ) (a : Arrays) (left x : ℕ) (o : Arrays) : Type 0 where
-  pub whole : (r : Arrays) → Expelled left x o r → Expelled n q a r
+pub record Going (n q : ℕ) (a : ListOrderedMultimap) (i x : ℕ) (o : ListOrderedMultimap) : Type 0 where
+  pub whole : (r : ListOrderedMultimap) → Expelled (n - i) x o r → Expelled n q a r
 
-module _ {n q : ℕ} {a : Arrays} {left x : ℕ} {o : Arrays} (g : Going n q a left x o) where
-  pub goes_on : 0 < left → {next : ℕ} → next ≡ at o.next_index x → (gone : Bool) (o' : Arrays) → Left o x gone o'
-      → Going n q a (left - 1) next o'
+module _ {n q : ℕ} {a : ListOrderedMultimap} {i x : ℕ} {o : ListOrderedMultimap} (g : Going n q a i x o) where
+  pub goes_on : i < n → {next : ℕ} → next ≡ at o.next_index x → (gone : Bool) (o' : ListOrderedMultimap) → Left o x gone o'
+      → Going n q a (i + 1) next o'
   goes_on h e gone o' d =
-      let z : suc (left - 1) ≡ left = omega arith in
-      let last : (r : Arrays) → Expelled (left - 1) _ o' r → Expelled left x o r =
-      λ r t. subst (λ (j : ℕ). Expelled j x o r) z (o', gone, d, subst (λ (y : ℕ). Expelled (left - 1) y o' r) e t) in
+      let z : suc (n - (i + 1)) ≡ n - i = omega arith in
+      let last : (r : ListOrderedMultimap) → Expelled (n - (i + 1)) _ o' r → Expelled (n - i) x o r =
+      λ r t. subst (λ (j : ℕ). Expelled j x o r) z (o', gone, d, subst (λ (y : ℕ). Expelled (n - (i + 1)) y o' r) e t) in
       record { whole = λ r t. g.whole r (last r t) }
-
-  pub ends : left ≤ 0 → (key : ℕ) → n ≡ at a.lengths key → q ≡ at a.next_index (base_of key) → RecordOut a key o
-  ends h key n_is q_is =
-      let z : 0 ≡ left = omega arith in
-      subst (λ (j : ℕ). Expelled (at a.lengths key) j a o) q_is
-      (subst (λ (j : ℕ). Expelled j q a o) n_is (g.whole o (subst (λ (j : ℕ). Expelled j x o o) z refl)))
 
 -- ---- lists
 
@@ -76,7 +69,7 @@ module _ (f : ℕ → Pair) (j : ℕ) where
 
 -- ---- the first round of the record of the member place k
 
-module _ (a : Arrays) (g : WellLinked a) (k v : ℕ) (vs : List ℕ) (e : record_in (links_of a) k ≡ v ∷ vs) where
+module _ (a : ListOrderedMultimap) (g : WellLinked a) (k v : ℕ) (vs : List ℕ) (e : record_in (links_of a) k ≡ v ∷ vs) where
   abbrev us : List ℕ
   us = order (rounds_of a)
 
@@ -100,7 +93,7 @@ module _ (a : Arrays) (g : WellLinked a) (k v : ℕ) (vs : List ℕ) (e : record
   once : (q : ℕ) → tally q (v ∷ vs) ≤ 1
   once q = omega (arith, ap (tally q) e, record_once key k q us, order_distinct (rounds_of a) g.chained.rounds q)
 
-  module _ {gone : Bool} (o : Arrays) (w : PairGone a v gone o) where
+  module _ {gone : Bool} (o : ListOrderedMultimap) (w : PairGone a v gone o) where
     record_now : record_in (links_of o) k ≡ vs
     record_now =
         ap (λ (l : List ℕ). record_of (at l) k (order (rounds_of o))) w.key_index ∙ ap (record_of key k) w.left
@@ -116,7 +109,7 @@ module _ (a : Arrays) (g : WellLinked a) (k v : ℕ) (vs : List ℕ) (e : record
 
 -- ---- all of them
 
-expelled : (n : ℕ) (vs : List ℕ) (q k : ℕ) (a r : Arrays) → WellLinked a → record_in (links_of a) k ≡ vs → n ≡ length vs
+expelled : (n : ℕ) (vs : List ℕ) (q k : ℕ) (a r : ListOrderedMultimap) → WellLinked a → record_in (links_of a) k ≡ vs → n ≡ length vs
     → q ≡ get_or vs 0 (1024 + k) → Expelled n q a r
     → WellLinked r × (state_of r ≡ keeping (map (pair_at a) (strip vs (order (rounds_of a)))) (state_of a))
 expelled zero [] q k a r g e l i t = (subst WellLinked (sym t) g, ap state_of t ∙ sym (keep_all (state_of a) (all_have a g)))
@@ -124,7 +117,7 @@ expelled zero (v ∷ vs) q k a r g e l i t = absurd (omega arith)
 expelled (suc n) [] q k a r g e l i t = absurd (omega arith)
 expelled (suc n) (v ∷ vs) q k a r g e l i t =
     let t' : Expelled (suc n) v a r = subst (λ (y : ℕ). Expelled (suc n) y a r) i t in
-    let o : Arrays = t'.0 in
+    let o : ListOrderedMultimap = t'.0 in
     let w : PairGone a v t'.1 o = pair_gone a g v (v_round a g k v vs e) t'.1 o t'.2 in
     let now : record_in (links_of o) k ≡ vs = record_now a g k v vs e o w in
     let ih = expelled n vs (at a.next_index v) k o r w.linked now (omega arith) (next_is a g k v vs e) t'.3 in
@@ -132,7 +125,7 @@ expelled (suc n) (v ∷ vs) q k a r g e l i t =
 
 -- ---- the record of a member
 
-module _ (a : Arrays) (g : WellLinked a) (k x : ℕ) (m : Member a k x) where
+module _ (a : ListOrderedMultimap) (g : WellLinked a) (k x : ℕ) (m : Member a k x) where
   abbrev R : List ℕ
   R = record_in (links_of a) x
 
@@ -144,7 +137,7 @@ module _ (a : Arrays) (g : WellLinked a) (k x : ℕ) (m : Member a k x) where
       ∙ sym (filter_map (λ p. not (of k p)) (pair_at a) (order (rounds_of a)))
 
   -- the member's place is x: with its rounds it has left
-  pub record_out : (r : Arrays) → RecordOut a x r → WellLinked r × (state_of r ≡ remove_member k (state_of a))
+  pub record_out : (r : ListOrderedMultimap) → RecordOut a x r → WellLinked r × (state_of r ≡ remove_member k (state_of a))
   record_out r t =
       let q : at a.next_index (base_of x) ≡ get_or R 0 (1024 + x) =
       ap (at a.next_index) (base_is x m.inside)
@@ -158,38 +151,23 @@ step_remove : (k : ℕ) (s : State) → step (remove k) s ≡ (say (first (round
 unfolding step checks act
 step_remove k s = refl
 
-module _ (a : Arrays) (g : WellLinked a) (k : ℕ) where
+module _ (a : ListOrderedMultimap) (g : WellLinked a) (k : ℕ) where
   pub same_state : NoMember a k → remove_member k (state_of a) ≡ state_of a
   same_state h = rw (h.others, h.leave)
 
-  pub told_none : (p n : ℕ) → searched a.index a.keys k ≡ Absent p n → (ans : List ℕ) → ans ≡ coded none
-      → Told linked (remove k) a a [] [] ans
-  told_none p n f ans i =
+  pub does_none : (p n : ℕ) → searched a.index a.keys k ≡ Absent p n → Does linked (remove k) a (say none) a
+  does_none p n f =
       let h : NoMember a k = not_found a g k p n f in
-      record {
-        outcome = say none;
-        does = does_stay linked (remove k) a (say none) refl g (step_remove k (state_of a) ∙ rw (h.rounds, same_state h));
-        out_is = refl;
-        out2_is = refl;
-        ans_is = i;
-      }
+      does_stay linked (remove k) a (say none) refl g (step_remove k (state_of a) ∙ rw (h.rounds, same_state h))
 
   -- y is the member's place, h its head, v the round there
-  pub told_removed : (p n : ℕ) (y : KeyPlace) → searched a.index a.keys k ≡ At p y n
-      → {h v : ℕ} → h ≡ at a.next_index (base_of y.0) → v ≡ at a.values h
-      → (r : Arrays) → RecordOut a y.0 r → (ans : List ℕ) → ans ≡ coded (round v) → Told linked (remove k) a r [] [] ans
-  told_removed p n y f {v = v} h_is v_is r t ans i =
-      let x : ℕ = y.0 in
-      let m : Member a k x = found a g k p n y f in
-      let d = record_out a g k x m r t in
+  pub does_remove : (p n : ℕ) (y : KeyPlace) → searched a.index a.keys k ≡ At p y n
+      → {h v : ℕ} → h ≡ at a.next_index (base_of y) → v ≡ at a.values h
+      → (r : ListOrderedMultimap) → RecordOut a y r → Does linked (remove k) a (say (round v)) r
+  does_remove p n y f {v = v} h_is v_is r t =
+      let m : Member a k y = found a g k p n y f in
+      let d = record_out a g k y m r t in
       let v_first : first (rounds k (pairs a)) ≡ round v =
-      first_round a g k x m ∙ ap round (sym (v_is ∙ ap (at a.values) (h_is ∙ ap (at a.next_index) (base_is x m.inside)))) in
-      record {
-        outcome = say (round v);
-        does =
-            does_change linked (remove k) a (say (round v)) (remove_member k (state_of a)) r refl refl
-            (step_remove k (state_of a) ∙ rw v_first) d.1 d.0;
-        out_is = refl;
-        out2_is = refl;
-        ans_is = i;
-      }
+      first_round a g k y m ∙ ap round (sym (v_is ∙ ap (at a.values) (h_is ∙ ap (at a.next_index) (base_is y m.inside)))) in
+      does_change linked (remove k) a (say (round v)) (remove_member k (state_of a)) r refl refl
+      (step_remove k (state_of a) ∙ rw v_first) d.1 d.0

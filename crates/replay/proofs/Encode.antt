@@ -15,7 +15,7 @@ use Rattle.multimap.specs.Map.{state_of}
 use Rattle.steps.specs.Call as C
 use Rattle.steps.proofs.Views.{view_back}
 use Rattle.steps.specs.Call.{Call, view}
-use Rattle.multimap.specs.Arrays.{Arrays}
+use Rattle.multimap.specs.declared.ListOrderedMultimap.{ListOrderedMultimap}
 use Rattle.replay.specs.Tape.{known, fits, decode}
 use Rattle.replay.specs.Encode.{numbers, lent_outs, lent_outs2, all_marks}
 use Rattle.replay.specs.Played.{Played}
@@ -73,7 +73,7 @@ decode_encode (c ∷ cs) space h =
     (ap₂ (λ (x : Call) (xs : List Call). x ∷ xs) (view_back c) (decode_encode cs (space - 4) (omega arith)))
 
 -- so replay makes all calls of the list, on the new map with the limits l, and its claim is one about the list itself
-pub all_made : (l : Limits) (cs : List Call) (ans outs' outs2' ans' : List ℕ) (m' : Arrays) (n : ℕ) → 4 * length cs ≤ length ans
+pub all_made : (l : Limits) (cs : List Call) (ans outs' outs2' ans' : List ℕ) (m' : ListOrderedMultimap) (n : ℕ) → 4 * length cs ≤ length ans
     → Played l (numbers cs) (lent_outs cs) (lent_outs2 cs) (all_marks cs) ans outs' outs2' ans' m' n → (n ≡ length cs) × (state_of m' ≡ after cs (make_of l).1)
 all_made l cs ans outs' outs2' ans' m' n h p = (
   p.number ∙ ap length (decode_encode cs (length ans) h),

@@ -1,37 +1,37 @@
 -- What one turn of a run does to its place: it stops there, or is past a call. Assumes nothing.
 use mathlib.Core.Path.{◌≡◌, refl, ap, sym, ◌∙◌, subst}
-use mathlib.Core.Bool.{Bool, true, false, cond, false≢true, true≢false}
+use mathlib.Core.Bool.{Bool, true, false}
 use mathlib.Core.List.{List, [], ◌∷◌}
-use Prim.Native.Nat.{ℕ, suc, ◌+◌, ◌-◌, ◌≤◌, ◌<◌}
+use Prim.Native.Nat.{ℕ, ◌+◌, ◌-◌, ◌≤◌, ◌<◌}
 use native.Mathlib.Omega.{arith}
 use lib.ListN.{length, take, drop, length-drop}
 use lib.Seq.{length-take-le}
 use borrow.Rule.Slice.PartMut.{put_mid}
 use Rattle.multimap.specs.WellLinked.{WellLinked, linked}
-use Rattle.multimap.specs.Arrays.{Arrays}
+use Rattle.multimap.specs.declared.ListOrderedMultimap.{ListOrderedMultimap}
 use Rattle.steps.specs.Told.{Told}
 use Rattle.steps.specs.Call.{call_of, lends, lends_two}
 use Rattle.turn.specs.Turned.{Turned, had}
-use Rattle.replay.specs.Place.{head_at, fits_head, Ready, stopped, Past, Within, rest, At, Advanced}
+use Rattle.replay.specs.Place.{head_at, fits_head, Ready, Past, Within, rest, At, Onward, Ended}
 use Rattle.replay.specs.declared.Head.{Head}
 use Rattle.replay.specs.declared.Place.{Place}
 use Rattle.replay.proofs.Tapes.{Fits, fits_says}
 use Rattle.replay.proofs.Running.{ended_short, ended_not, turn_on}
 
-module _ (calls marks : List ℕ) (p : Place) (outs outs2 ans : List ℕ) (m : Arrays) where
-  stays : (q : Place) → q ≡ stopped p → rest calls marks p outs outs2 ans ≡ [] → Advanced calls marks p outs outs2 ans m q outs outs2 ans m
-  stays q e r = rw e (record { keeps = λ outs₀ outs2₀ ans₀ m₀ v. v; ended = λ h. r; onward = λ h. absurd (false≢true h) })
+module _ (calls marks : List ℕ) (p : Place) (outs outs2 ans : List ℕ) (m : ListOrderedMultimap) where
+  stays : rest calls marks p outs outs2 ans ≡ [] → Ended calls marks p outs outs2 ans m outs outs2 ans m
+  stays r = record { none = r; outs_is = refl; outs2_is = refl; ans_is = refl; map_is = refl }
 
-  pub stops_short : (q : Place) → q ≡ stopped p → length calls - p.call < 7 → Advanced calls marks p outs outs2 ans m q outs outs2 ans m
-  stops_short q e h = stays q e (ended_short calls outs outs2 marks ans p.call p.out p.out2 p.mark p.answer h)
+  pub stops_short : length calls - p.call < 7 → Ended calls marks p outs outs2 ans m outs outs2 ans m
+  stops_short h = stays (ended_short calls outs outs2 marks ans p.call p.out p.out2 p.mark p.answer h)
 
   module _ (h : Head) (is : h ≡ head_at calls p.call) (inside : 7 ≤ length calls - p.call) (w : Within p calls outs outs2 marks ans) where
     whole : p.call + 7 ≤ length calls
     whole = omega arith
 
-    pub stops_not : (q : Place) → q ≡ stopped p → fits_head h (length outs - p.out) (length outs2 - p.out2) (length marks - p.mark) (length ans - p.answer) ≡ false
-        → Advanced calls marks p outs outs2 ans m q outs outs2 ans m
-    stops_not q e f = stays q e (ended_not calls outs outs2 marks ans p.call p.out p.out2 p.mark p.answer whole (rw is at f))
+    pub stops_not : fits_head h (length outs - p.out) (length outs2 - p.out2) (length marks - p.mark) (length ans - p.answer) ≡ false
+        → Ended calls marks p outs outs2 ans m outs outs2 ans m
+    stops_not f = stays (ended_not calls outs outs2 marks ans p.call p.out p.out2 p.mark p.answer whole (rw is at f))
 
     module _ (f : fits_head h (length outs - p.out) (length outs2 - p.out2) (length marks - p.mark) (length ans - p.answer) ≡ true) where
       pub room : Fits h.op h.n h.n2 h.n3 (length outs - p.out) (length outs2 - p.out2) (length marks - p.mark) (length ans - p.answer)
@@ -56,14 +56,13 @@ module _ (calls marks : List ℕ) (p : Place) (outs outs2 ans : List ℕ) (m : A
           length-take-le b (drop p.answer ans) (omega (arith, length-drop p.answer ans, room.space_in)) ∙ b_is,
         )
 
-        pub goes_on : (q : Place) (m' : Arrays) (o o2 k : List ℕ) → Past p h q → length o ≡ length (take n (drop p.out outs)) → length o2 ≡ length (take n2 (drop p.out2 outs2))
+        pub goes_on : (q : Place) (m' : ListOrderedMultimap) (o o2 k : List ℕ) → Past p h q → length o ≡ length (take n (drop p.out outs)) → length o2 ≡ length (take n2 (drop p.out2 outs2))
             → Told linked (call_of h.op h.poster h.k h.v (take n (drop p.out outs)) (take n2 (drop p.out2 outs2)) (take n3 (drop p.mark marks))) m m' o o2 k
-            → Advanced calls marks p outs outs2 ans m q (put_mid p.out n outs o) (put_mid p.out2 n2 outs2 o2) (put_mid p.answer b ans k) m'
+            → Onward calls marks p outs outs2 ans m q (put_mid p.out n outs o) (put_mid p.out2 n2 outs2 o2) (put_mid p.answer b ans k) m'
         goes_on q m' o o2 k past ol o2l t =
             record {
               keeps = λ outs₀ outs2₀ ans₀ m₀ v. at_q outs₀ outs2₀ ans₀ m₀ v;
-              ended = λ e. absurd (true≢false (sym past.more ∙ e));
-              onward = λ e. omega (arith, past.call);
+              onward = omega (arith, past.call);
             }
           where
             out_is : q.out ≡ p.out + n
@@ -75,7 +74,7 @@ module _ (calls marks : List ℕ) (p : Place) (outs outs2 ans : List ℕ) (m : A
             mark_is : q.mark ≡ p.mark + n3
             mark_is = past.mark ∙ ap (λ (x : ℕ). p.mark + x) (sym n3_is)
 
-            at_q : (outs₀ outs2₀ ans₀ : List ℕ) (m₀ : Arrays) → At calls marks outs₀ outs2₀ ans₀ m₀ p outs outs2 ans m
+            at_q : (outs₀ outs2₀ ans₀ : List ℕ) (m₀ : ListOrderedMultimap) → At calls marks outs₀ outs2₀ ans₀ m₀ p outs outs2 ans m
                 → At calls marks outs₀ outs2₀ ans₀ m₀ q (put_mid p.out n outs o) (put_mid p.out2 n2 outs2 o2) (put_mid p.answer b ans k) m'
             at_q outs₀ outs2₀ ans₀ m₀ v =
                 rw (past.call, out_is, out2_is, mark_is, past.answer, past.ran, b_is)
@@ -84,24 +83,35 @@ module _ (calls marks : List ℕ) (p : Place) (outs outs2 ans : List ℕ) (m : A
                 whole (rw (← n_is, ← n2_is, ← n3_is, is) at f) (ol ∙ part) (o2l ∙ part2) (rw is at t))
 
 -- where a run stands is within its slices
-pub at_within : (calls marks outs₀ outs2₀ ans₀ : List ℕ) (m₀ : Arrays) (p : Place) (outs outs2 ans : List ℕ) (m : Arrays) → At calls marks outs₀ outs2₀ ans₀ m₀ p outs outs2 ans m
+pub at_within : (calls marks outs₀ outs2₀ ans₀ : List ℕ) (m₀ : ListOrderedMultimap) (p : Place) (outs outs2 ans : List ℕ) (m : ListOrderedMultimap) → At calls marks outs₀ outs2₀ ans₀ m₀ p outs outs2 ans m
     → Within p calls outs outs2 marks ans
 at_within calls marks outs₀ outs2₀ ans₀ m₀ p outs outs2 ans m v =
     record { call = v.i_in; out = v.at_in; out2 = v.at2_in; mark = v.at3_in; answer = v.a_in; ran = v.ran_is }
 
--- what is left of the calls, and nothing where the list does not go on
-abbrev pub ahead : Place → List ℕ → ℕ
-ahead p calls = cond p.more (suc (length calls - p.call)) 0
+-- the slices reach as far as the place past a call that fits, and the sums that lead there are numbers of 64 bits
+pub record Reach (p : Place) (h : Head) (q : Place) (calls outs outs2 marks ans : List ℕ) : Type 0 where
+  pub call : p.call + 7 ≤ length calls
+  pub out : (p.out ≤ q.out) × (q.out ≤ length outs)
+  pub out2 : (p.out2 ≤ q.out2) × (q.out2 ≤ length outs2)
+  pub mark : (p.mark ≤ q.mark) × (q.mark ≤ length marks)
+  pub answer : (p.answer ≤ q.answer) × (q.answer ≤ length ans)
 
-pub nearer : (p q : Place) (calls : List ℕ) → p.more ≡ true → q.call ≤ length calls → (q.more ≡ true → p.call + 7 ≤ q.call) → ahead q calls < ahead p calls
-nearer p q calls e h o = rw e (go q.more refl)
-  where
-    go : (b : Bool) → q.more ≡ b → cond b (suc (length calls - q.call)) 0 < suc (length calls - p.call)
-    go true f = omega (arith, o f)
-    go false f = omega arith
+pub reach : {p : Place} {h : Head} {q : Place} {calls outs outs2 marks ans : List ℕ} → Within p calls outs outs2 marks ans → 7 ≤ length calls - p.call
+    → fits_head h (length outs - p.out) (length outs2 - p.out2) (length marks - p.mark) (length ans - p.answer) ≡ true → Past p h q
+    → Reach p h q calls outs outs2 marks ans
+reach {p} {h} {q} {calls} {outs} {outs2} {marks} {ans} w l f past =
+    let fit : Fits h.op h.n h.n2 h.n3 (length outs - p.out) (length outs2 - p.out2) (length marks - p.mark) (length ans - p.answer) =
+    fits_says h.op h.n h.n2 h.n3 (length outs - p.out) (length outs2 - p.out2) (length marks - p.mark) (length ans - p.answer) f in
+    record {
+      call = omega (arith, w, l);
+      out = omega (arith, w, fit, past);
+      out2 = omega (arith, w, fit, past);
+      mark = omega (arith, w, fit, past);
+      answer = omega (arith, w, fit, past);
+    }
 
 -- slices that the call does not have are empty, and stay so
-pub turned_told : {op poster k v : ℕ} {m m' : Arrays} {out out2 marks out' out2' told ans : List ℕ} → Ready m op out out2
+pub turned_told : {op poster k v : ℕ} {m m' : ListOrderedMultimap} {out out2 marks out' out2' told ans : List ℕ} → Ready m op out out2
     → Turned op poster k v m m' out out2 marks out' out2' told → ans ≡ told → Told linked (call_of op poster k v out out2 marks) m m' out' out2' ans
 turned_told {op} {poster} {k} {v} {m} {m'} {out} {out2} {marks} {out'} {out2'} {told} {ans} r t stored =
     rw stored

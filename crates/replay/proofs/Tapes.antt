@@ -21,7 +21,7 @@ use Rattle.steps.specs.Call.{call_of, lends, lends_two, has_marks}
 use Rattle.replay.specs.Tape.{known, fits, decode, outs_of, outs2_of, answers_of, Ran}
 use Rattle.multimap.specs.Map.{state_of}
 use Rattle.multimap.specs.WellLinked.{WellLinked, linked}
-use Rattle.multimap.specs.Arrays.{Arrays}
+use Rattle.multimap.specs.declared.ListOrderedMultimap.{ListOrderedMultimap}
 use Rattle.multimap.proofs.Demand3.{demand_3}
 use Rattle.replay.specs.Played.{Played}
 
@@ -136,7 +136,7 @@ module _ {Map : Type 0} (M : Kind Map) where
       }
 
 -- from the new linked map with the limits l
-pub played : (l : Limits) (calls outs outs2 marks ans outs' outs2' ans' : List ℕ) (m m' : Arrays) (n : ℕ) → Ran linked calls outs outs2 marks ans m outs' outs2' ans' m' n
+pub played : (l : Limits) (calls outs outs2 marks ans outs' outs2' ans' : List ℕ) (m m' : ListOrderedMultimap) (n : ℕ) → Ran linked calls outs outs2 marks ans m outs' outs2' ans' m' n
     → WellLinked m → state_of m ≡ (make_of l).1 → Played l calls outs outs2 marks ans outs' outs2' ans' m' n
 played l calls outs outs2 marks ans outs' outs2' ans' m m' n r h e =
     let cs = decode calls outs outs2 marks (length ans) in

@@ -1,8 +1,8 @@
 -- Where a run of a list of calls stands in its slices, and what the functions that move it on ensure.
-use Rattle.std.specs.Prelude.{◌≡◌, Bool, true, false, List, [], ℕ, ◌+◌, ◌*◌, ◌≤◌, ◌<◌, length, drop, get_or}
+use Rattle.std.specs.Prelude.{◌≡◌, Bool, false, List, [], ℕ, Option, Some, None, ◌+◌, ◌*◌, ◌≤◌, ◌<◌, length, drop, get_or}
 use Rattle.steps.specs.Call.{Call, lends, lends_two}
 use Rattle.multimap.specs.WellLinked.{WellLinked, linked}
-use Rattle.multimap.specs.Arrays.{Arrays}
+use Rattle.multimap.specs.declared.ListOrderedMultimap.{ListOrderedMultimap}
 use Rattle.replay.specs.Tape.{known, fits, decode, Reached}
 use Rattle.replay.specs.declared.Head.{Head}
 use Rattle.replay.specs.declared.Place.{Place}
@@ -27,15 +27,11 @@ abbrev pub fits_head : Head → ℕ → ℕ → ℕ → ℕ → Bool
 fits_head h room room2 room3 space = fits h.op h.n h.n2 h.n3 room room2 room3 space
 
 -- A call that may be made: there is one of this number, and its slices are empty where it has none.
-pub record Ready (m : Arrays) (op : ℕ) (out out2 : List ℕ) : Type 0 where
+pub record Ready (m : ListOrderedMultimap) (op : ℕ) (out out2 : List ℕ) : Type 0 where
   pub linked : WellLinked m
   pub known : op < 24
   pub no_slice : lends op ≡ false → length out ≡ 0
   pub no_second : lends_two op ≡ false → length out2 ≡ 0
-
--- The same place, where the list does not go on.
-abbrev pub stopped : Place → Place
-stopped p = record { call = p.call; out = p.out; out2 = p.out2; mark = p.mark; answer = p.answer; ran = p.ran; more = false }
 
 -- The sums that lead past the call at p are numbers of 64 bits.
 pub record Small (p : Place) (h : Head) : Type 0 where
@@ -54,7 +50,6 @@ pub record Past (p : Place) (h : Head) (q : Place) : Type 0 where
   pub mark : q.mark ≡ p.mark + h.n3
   pub answer : q.answer ≡ p.answer + 4
   pub ran : q.ran ≡ p.ran + 1
-  pub more : q.more ≡ true
 
 -- p stands within the slices, and has passed as many answers as calls.
 pub record Within (p : Place) (calls outs outs2 marks ans : List ℕ) : Type 0 where
@@ -71,12 +66,24 @@ module _ (calls marks : List ℕ) where
   rest p outs outs2 ans = decode (drop p.call calls) (drop p.out outs) (drop p.out2 outs2) (drop p.mark marks) (length (drop p.answer ans))
 
   -- A run that began with m₀ and these slices stands at p with m and those.
-  abbrev pub At : List ℕ → List ℕ → List ℕ → Arrays → Place → List ℕ → List ℕ → List ℕ → Arrays → Type 0
+  abbrev pub At : List ℕ → List ℕ → List ℕ → ListOrderedMultimap → Place → List ℕ → List ℕ → List ℕ → ListOrderedMultimap → Type 0
   At outs₀ outs2₀ ans₀ m₀ p outs outs2 ans m =
       Reached linked calls outs₀ outs2₀ marks ans₀ m₀ outs outs2 ans m p.call p.out p.out2 p.mark p.answer p.ran
 
-  -- From p to q: every run that stands at p stands at q now. Either a call was made, or the list does not go on.
-  pub record Advanced (p : Place) (outs outs2 ans : List ℕ) (m : Arrays) (q : Place) (outs' outs2' ans' : List ℕ) (m' : Arrays) : Type 0 where
-    pub keeps : (outs₀ outs2₀ ans₀ : List ℕ) (m₀ : Arrays) → At outs₀ outs2₀ ans₀ m₀ p outs outs2 ans m → At outs₀ outs2₀ ans₀ m₀ q outs' outs2' ans' m'
-    pub ended : q.more ≡ false → rest q outs' outs2' ans' ≡ []
-    pub onward : q.more ≡ true → p.call + 7 ≤ q.call
+  -- A call was made, from p to q: every run that stands at p stands at q now.
+  pub record Onward (p : Place) (outs outs2 ans : List ℕ) (m : ListOrderedMultimap) (q : Place) (outs' outs2' ans' : List ℕ) (m' : ListOrderedMultimap) : Type 0 where
+    pub keeps : (outs₀ outs2₀ ans₀ : List ℕ) (m₀ : ListOrderedMultimap) → At outs₀ outs2₀ ans₀ m₀ p outs outs2 ans m → At outs₀ outs2₀ ans₀ m₀ q outs' outs2' ans' m'
+    pub onward : p.call + 7 ≤ q.call
+
+  -- The list does not go on, and nothing is changed.
+  pub record Ended (p : Place) (outs outs2 ans : List ℕ) (m : ListOrderedMultimap) (outs' outs2' ans' : List ℕ) (m' : ListOrderedMultimap) : Type 0 where
+    pub none : rest p outs outs2 ans ≡ []
+    pub outs_is : outs' ≡ outs
+    pub outs2_is : outs2' ≡ outs2
+    pub ans_is : ans' ≡ ans
+    pub map_is : m' ≡ m
+
+  -- Either a call was made, and q is past it, or the list does not go on.
+  abbrev pub Advanced : Place → List ℕ → List ℕ → List ℕ → ListOrderedMultimap → Option Place → List ℕ → List ℕ → List ℕ → ListOrderedMultimap → Type 0
+  Advanced p outs outs2 ans m (Some q) outs' outs2' ans' m' = Onward p outs outs2 ans m q outs' outs2' ans' m'
+  Advanced p outs outs2 ans m None outs' outs2' ans' m' = Ended p outs outs2 ans m outs' outs2' ans' m'

@@ -5,15 +5,15 @@ use Rattle.steps.specs.Step.{outcomes, over, make_of}
 use Rattle.steps.specs.Trace.{Trace}
 use Rattle.multimap.specs.Map.{state_of}
 use Rattle.multimap.specs.WellLinked.{WellLinked, linked}
-use Rattle.multimap.specs.Arrays.{Arrays}
+use Rattle.multimap.specs.declared.ListOrderedMultimap.{ListOrderedMultimap}
 use Rattle.multimap.specs.Demand3.{Demand3}
 use Rattle.replay.specs.Tape.{decode, outs_of, outs2_of, answers_of}
 
 -- The calls that the slices hold when the run starts, `n` of them, were run one after the other on the new map with the limits l, each on the map
 -- that the one before gave back; m' is the last. Demand 3 holds of them as a whole. The slices now hold what the steps, run from their own new state
 -- with these limits, write and answer; what stands past that is kept.
-pub record Played (l : Limits) (calls outs outs2 marks ans outs' outs2' ans' : List ℕ) (m' : Arrays) (n : ℕ) : Type 0 where
-  pub start : Arrays
+pub record Played (l : Limits) (calls outs outs2 marks ans outs' outs2' ans' : List ℕ) (m' : ListOrderedMultimap) (n : ℕ) : Type 0 where
+  pub start : ListOrderedMultimap
   pub start_linked : WellLinked start
   pub start_new : state_of start ≡ (make_of l).1
   pub trace : Trace linked (decode calls outs outs2 marks (length ans)) start (outcomes (decode calls outs outs2 marks (length ans)) (make_of l).1) m'

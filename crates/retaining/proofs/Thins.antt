@@ -1,22 +1,20 @@
 -- What `thin` makes of the map, and `retain` over it. Assumes nothing.
-use Prim.Native.Nat.{ℕ, suc, ◌+◌, ◌-◌, ◌≤◌, ◌<◌}
+use Prim.Native.Nat.{ℕ, suc, ◌+◌, ◌≤◌, ◌<◌}
 use mathlib.Core.Path.{◌≡◌, refl, sym, ap, ◌∙◌, subst}
 use mathlib.Core.Logic.{◌≢◌, ⊎_elim}
 use mathlib.Core.Bool.{Bool, true, false, cond, ◌&&◌, ◌||◌, false≢true}
 use mathlib.Core.List.{List, [], ◌∷◌, ◌++◌, map, append_assoc}
 use native.Mathlib.Omega.{arith}
-use native.Mathlib.Numerals.{add-one}
 use borrow.Author.Tests.{eq-eqb, ne_eqb}
 use lib.Dec.{eqb}
-use lib.ListN.{length, get_or, drop}
-use lib.Seq.{drop-cons}
+use lib.ListN.{length, get_or, drop, length-drop}
+use Rattle.std.proofs.lemmas.List.{get_or-drop}
+use Rattle.steps.specs.Lists.{all}
 use Rattle.steps.specs.State.{State, Pair, has, of, kept, keep}
-use Rattle.steps.specs.Accounting.{times}
 use Rattle.steps.specs.Call.{refused}
 use Rattle.steps.specs.Call as C
-use Rattle.steps.specs.Coded.{coded, bit}
 use Rattle.steps.specs.Step.{step, checks, act, say}
-use Rattle.steps.specs.Told.{Told}
+use Rattle.steps.specs.Trace.{Does}
 use Rattle.steps.proofs.Doing.{does_refuse, does_change}
 use Rattle.steps.proofs.Filter.{any_append}
 use Rattle.steps.proofs.Removals.{keep_all, kept_has}
@@ -25,8 +23,7 @@ use Rattle.links.specs.Places.{order}
 use Rattle.links.specs.Stores.{at}
 use Rattle.links.proofs.Routes.{same_or_not, tally_same, tally_append, route_split, route_start}
 use Rattle.links.proofs.Lists.{order_without, length_order}
-use Rattle.multimap.specs.Arrays.{Arrays}
-use Rattle.multimap.specs.Changes.{Left}
+use Rattle.multimap.specs.declared.ListOrderedMultimap.{ListOrderedMultimap}
 use Rattle.multimap.specs.Map.{pair_at, pairs, rounds_of, state_of}
 use Rattle.multimap.specs.Popping.{PairGone, rest}
 use Rattle.multimap.specs.WellLinked.{WellLinked, linked}
@@ -34,59 +31,43 @@ use Rattle.multimap.proofs.Keeping.{gone_keep}
 use Rattle.multimap.proofs.Leaves.{pair_gone}
 use Rattle.multimap.proofs.Leaving.{all_have}
 use Rattle.multimap.proofs.Stores.{map-append, length_pairs}
-use Rattle.retaining.specs.Thin.{Turned, Thinned}
-use Rattle.retaining.proofs.Marks.{proper, times_cons, times_next, times_some, sum_proper, sum_improper, is_one, length_kept}
+use Rattle.retaining.specs.Thin.{Thinned}
 
--- ---- a turn
+-- each mark is 0 or 1
+abbrev pub proper : List ℕ → Bool
+proper ms = all (λ m. eqb 0 m || eqb 1 m) ms
 
-module _ (mark x : ℕ) (a : Arrays) where
-  pub turned_stays : mark ≢ 0 → Turned mark x a a
-  turned_stays n = record { out = λ e. absurd (n e); stays = λ e. refl }
+-- a mark that is not 0 is 1
+is_one : (m : ℕ) → (eqb 0 m || eqb 1 m) ≡ true → m ≢ 0 → eqb 1 m ≡ true
+is_one m e n = rw (ne_eqb 0 m (λ u. n (sym u))) at e
 
-  pub turned_out : mark ≡ 0 → (gone : Bool) (r : Arrays) → Left a x gone r → Turned mark x a r
-  turned_out e gone r d = record { out = λ u. (gone, d); stays = λ n. absurd (n e) }
+-- ---- the turns: with i of the marks read, and the place x next, what the others make of o is what all make of a
+
+pub record Going (ms : List ℕ) (q : ℕ) (a : ListOrderedMultimap) (i x : ℕ) (o : ListOrderedMultimap) : Type 0 where
+  pub whole : (r : ListOrderedMultimap) → Thinned (drop i ms) x o r → Thinned ms q a r
 
 -- where no mark is 0, nobody leaves
-none_out : (ms : List ℕ) (x : ℕ) (a : Arrays) → times (eqb 0) ms ≡ 0 → Thinned ms x a a
+none_out : (ms : List ℕ) (x : ℕ) (a : ListOrderedMultimap) → ((k : ℕ) → k < length ms → get_or ms k 0 ≢ 0) → Thinned ms x a a
 none_out [] x a e = refl
 none_out (m ∷ ms) x a e =
-    let c = times_cons (eqb 0) m ms in
-    let n : m ≢ 0 = λ u. omega (arith, e, c, ap bit (eq-eqb 0 m (sym u))) in
-    (a, turned_stays m x a n, none_out ms (at a.next_value x) a (omega (arith, e, c)))
+    (a, record { out = λ u. absurd (e 0 (omega arith) u); stays = λ u. refl }, none_out ms (at a.next_value x) a (λ k h. e (suc k) (omega arith)))
 
--- ---- the turns: with the marks from i on still to come, of which so many are 0, what they make of o is what all make of a
-
-pub record Going (ms : List ℕ) (q : ℕ) (a : Arrays) (left i x : ℕ) (o : Arrays) : Type 0 where
-  pub zeros : left ≡ times (eqb 0) (drop i ms)
-  pub whole : (r : Arrays) → Thinned (drop i ms) x o r → Thinned ms q a r
-
-module _ {ms : List ℕ} {q : ℕ} {a : Arrays} {left i x : ℕ} {o : Arrays} (g : Going ms q a left i x o) where
-  pub inside : 0 < left → i < length ms
-  inside h = times_some (eqb 0) ms i (omega (arith, h, g.zeros))
-
-  pub share : 0 < left → bit (eqb 0 (get_or ms i 0)) ≤ left
-  share h = omega (arith, g.zeros, times_next (eqb 0) ms i (inside h))
-
-  pub goes_on : 0 < left → {next n : ℕ} → next ≡ at o.next_value x → n ≡ bit (eqb 0 (get_or ms i 0))
-      → (o' : Arrays) → Turned (get_or ms i 0) x o o' → Going ms q a (left - n) (i + 1) next o'
-  goes_on h {next} e n_is o' d =
-      let m : ℕ = get_or ms i 0 in
-      let turn : (r : Arrays) → Thinned (drop (i + 1) ms) next o' r → Thinned (drop i ms) x o r =
-      λ r t.
-      subst (λ (l : List ℕ). Thinned l x o r) (sym (drop-cons ms i 0 (inside h)))
-      (o', d, subst (λ (y : ℕ). Thinned (drop (suc i) ms) y o' r) e (subst (λ (j : ℕ). Thinned (drop j ms) next o' r) (add-one i) t)) in
-      record { zeros = omega (arith, g.zeros, n_is, times_next (eqb 0) ms i (inside h)); whole = λ r t. g.whole r (turn r t) }
-
-  pub ends : left ≤ 0 → q ≡ at a.next_value 1024 → Thinned ms (at a.next_value 1024) a o
-  ends h e = subst (λ (y : ℕ). Thinned ms y a o) e (g.whole o (none_out (drop i ms) x o (omega (arith, h, g.zeros))))
+module _ {ms : List ℕ} {q : ℕ} {a : ListOrderedMultimap} {i x : ℕ} {o : ListOrderedMultimap} (g : Going ms q a i x o) where
+  -- the walk began at `start`, and past the place `end` no mark is 0
+  pub ends : (start end : ℕ) → q ≡ start → ((k : ℕ) → end ≤ k → k < length ms → get_or ms k 0 ≢ 0) → end ≤ i → Thinned ms start a o
+  ends start end began past h =
+      subst (λ (y : ℕ). Thinned ms y a o) began
+      (g.whole o
+      (none_out (drop i ms) x o
+      (λ k u e. past (i + k) (omega arith) (omega (arith, u, length-drop i ms)) (sym (get_or-drop i ms k 0) ∙ e))))
 
 -- the pairs of the places `front`, and of the places vs those with mark 1
-abbrev remaining : Arrays → List ℕ → List ℕ → List ℕ → List Pair
+abbrev remaining : ListOrderedMultimap → List ℕ → List ℕ → List ℕ → List Pair
 remaining a front ms vs = map (pair_at a) front ++ kept ms (map (pair_at a) vs)
 
 -- ---- one round of a well-linked map
 
-module _ (a : Arrays) (g : WellLinked a) (front : List ℕ) (v : ℕ) (vs : List ℕ) (e : order (rounds_of a) ≡ front ++ (v ∷ vs)) where
+module _ (a : ListOrderedMultimap) (g : WellLinked a) (front : List ℕ) (v : ℕ) (vs : List ℕ) (e : order (rounds_of a) ≡ front ++ (v ∷ vs)) where
   v_in : 0 < tally v (order (rounds_of a))
   v_in = omega (arith, ap (tally v) e, tally_append v front (v ∷ vs), tally_same v vs)
 
@@ -112,7 +93,7 @@ module _ (a : Arrays) (g : WellLinked a) (front : List ℕ) (v : ℕ) (vs : List
       or_later true b c h e = refl
       or_later false b c h e = h e
 
-  kept_out : (m : ℕ) (ms : List ℕ) → m ≡ 0 → (o : Arrays) {gone : Bool} → PairGone a v gone o
+  kept_out : (m : ℕ) (ms : List ℕ) → m ≡ 0 → (o : ListOrderedMultimap) {gone : Bool} → PairGone a v gone o
       → keep (remaining o front ms vs) (state_of o) ≡ keep (remaining a front (m ∷ ms) (v ∷ vs)) (state_of a)
   kept_out m ms z o w =
       ap (λ (h : ℕ → Pair). keep (map h front ++ kept ms (map h vs)) (state_of o)) w.same
@@ -138,7 +119,7 @@ tail_true : (a b : Bool) → (a && b) ≡ true → b ≡ true
 tail_true true b e = e
 tail_true false b e = absurd (false≢true e)
 
-thinned : (ms front vs : List ℕ) (x : ℕ) (a r : Arrays) → WellLinked a → order (rounds_of a) ≡ front ++ vs → x ≡ get_or vs 0 1024
+thinned : (ms front vs : List ℕ) (x : ℕ) (a r : ListOrderedMultimap) → WellLinked a → order (rounds_of a) ≡ front ++ vs → x ≡ get_or vs 0 1024
     → length ms ≡ length vs → proper ms ≡ true → Thinned ms x a r → WellLinked r × (state_of r ≡ keep (remaining a front ms vs) (state_of a))
 thinned [] front [] x a r g e i l p t =
     let all : pairs a ≡ remaining a front [] [] = ap (map (pair_at a)) e ∙ map-append (pair_at a) front [] in
@@ -147,7 +128,7 @@ thinned [] front (v ∷ vs) x a r g e i l p t = absurd (omega arith)
 thinned (m ∷ ms) front [] x a r g e i l p t = absurd (omega arith)
 thinned (m ∷ ms) front (v ∷ vs) x a r g e i l p t =
     let t' : Thinned (m ∷ ms) v a r = subst (λ (y : ℕ). Thinned (m ∷ ms) y a r) i t in
-    let o : Arrays = t'.0 in
+    let o : ListOrderedMultimap = t'.0 in
     let next : at a.next_value v ≡ get_or vs 0 1024 = next_is a g front v vs e in
     let l' : length ms ≡ length vs = omega arith in
     let p' : proper ms ≡ true = tail_true (eqb 0 m || eqb 1 m) (proper ms) p in
@@ -158,7 +139,7 @@ thinned (m ∷ ms) front (v ∷ vs) x a r g e i l p t =
     (ih.0, ih.1 ∙ kept_out a g front v vs e m ms z o w))
     (λ (z : m ≢ 0).
     let ih = thinned ms (front ++ (v ∷ [])) vs (at a.next_value v) a r g (e ∙ sym (append_assoc front (v ∷ []) vs)) next l' p'
-    (subst (λ (q : Arrays). Thinned ms (at a.next_value v) q r) (t'.1.stays z) t'.2) in
+    (subst (λ (q : ListOrderedMultimap). Thinned ms (at a.next_value v) q r) (t'.1.stays z) t'.2) in
     (ih.0, ih.1 ∙ kept_stays a g front v vs e m ms (is_one m (head_true (eqb 0 m || eqb 1 m) (proper ms) p) z)))
     (same_or_not m 0)
 
@@ -180,55 +161,25 @@ module _ (ms : List ℕ) (s : State) where
 
 -- ---- the call
 
-module _ (ms : List ℕ) (a : Arrays) (g : WellLinked a) where
-  pub told_count : length ms ≢ at a.rounds 0 → (ans : List ℕ) → ans ≡ coded (refused 7) → Told linked (C.retain ms) a a [] [] ans
-  told_count e ans i =
-      record {
-        outcome = say (refused 7);
-        does = does_refuse linked (C.retain ms) a 7 g (step_count ms (state_of a) (ne_eqb _ _ (λ u. e (u ∙ length_pairs a))));
-        out_is = refl;
-        out2_is = refl;
-        ans_is = i;
-      }
+module _ (ms : List ℕ) (a : ListOrderedMultimap) (g : WellLinked a) where
+  pub does_count : length ms ≢ a.rounds.len → Does linked (C.retain ms) a (say (refused 7)) a
+  does_count e = does_refuse linked (C.retain ms) a 7 g (step_count ms (state_of a) (ne_eqb _ _ (λ u. e (u ∙ length_pairs a))))
 
-  module _ (long : length ms ≡ at a.rounds 0) {zeros ones : ℕ}
-      (zeros_are : zeros ≡ times (eqb 0) ms) (ones_are : ones ≡ times (eqb 1) ms) where
+  module _ (long : length ms ≡ a.rounds.len) where
     as_long : eqb (length ms) (length (pairs a)) ≡ true
     as_long = eq-eqb _ _ (long ∙ sym (length_pairs a))
 
-    pub told_value : zeros + ones ≢ at a.rounds 0 → (ans : List ℕ) → ans ≡ coded (refused 8) → Told linked (C.retain ms) a a [] [] ans
-    told_value n ans i =
-        let h : proper ms ≡ false = sum_improper ms (λ u. n (omega (arith, u, long, zeros_are, ones_are))) in
-        record {
-          outcome = say (refused 8);
-          does = does_refuse linked (C.retain ms) a 8 g (step_value ms (state_of a) as_long h);
-          out_is = refl;
-          out2_is = refl;
-          ans_is = i;
-        }
+    pub does_value : proper ms ≡ false → Does linked (C.retain ms) a (say (refused 8)) a
+    does_value h = does_refuse linked (C.retain ms) a 8 g (step_value ms (state_of a) as_long h)
 
-    module _ (sum : zeros + ones ≡ at a.rounds 0) (r : Arrays) (t : Thinned ms (at a.next_value 1024) a r) where
-      fine : proper ms ≡ true
-      fine = sum_proper ms (omega (arith, sum, long, zeros_are, ones_are))
-
-      result : WellLinked r × (state_of r ≡ keep (kept ms (pairs a)) (state_of a))
-      result =
-          thinned ms [] (order (rounds_of a)) (at a.next_value 1024) a r g refl
-          (route_start (at a.next_value) (at a.previous_value) 1024 (order (rounds_of a)) 1024 g.chained.rounds.route)
-          (long ∙ sym (length_order (rounds_of a))) fine t
-
-      many : length (kept ms (pairs a)) ≡ ones
-      many = length_kept ms (pairs a) (long ∙ sym (length_pairs a)) ∙ sym ones_are
-
-      pub told_kept : (ans : List ℕ) → ans ≡ coded (C.count ones) → Told linked (C.retain ms) a r [] [] ans
-      told_kept ans i =
-          record {
-            outcome = say (C.count ones);
-            does =
-                does_change linked (C.retain ms) a (say (C.count ones)) (keep (kept ms (pairs a)) (state_of a)) r refl refl
-                (step_done ms (state_of a) as_long fine ∙ ap (λ (y : ℕ). (say (C.count y), keep (kept ms (pairs a)) (state_of a))) many)
-                result.1 result.0;
-            out_is = refl;
-            out2_is = refl;
-            ans_is = i;
-          }
+    pub does_retain : proper ms ≡ true → (r : ListOrderedMultimap) → Thinned ms (at a.next_value 1024) a r
+        → Does linked (C.retain ms) a (say (C.count r.rounds.len)) r
+    does_retain fine r t =
+        let d : WellLinked r × (state_of r ≡ keep (kept ms (pairs a)) (state_of a)) =
+        thinned ms [] (order (rounds_of a)) (at a.next_value 1024) a r g refl
+        (route_start (at a.next_value) (at a.previous_value) 1024 (order (rounds_of a)) 1024 g.chained.rounds.route)
+        (long ∙ sym (length_order (rounds_of a))) fine t in
+        let many : length (kept ms (pairs a)) ≡ r.rounds.len = ap (λ (s : State). length s.pairs) (sym d.1) ∙ length_pairs r in
+        does_change linked (C.retain ms) a (say (C.count r.rounds.len)) (keep (kept ms (pairs a)) (state_of a)) r refl refl
+        (step_done ms (state_of a) as_long fine ∙ ap (λ (y : ℕ). (say (C.count y), keep (kept ms (pairs a)) (state_of a))) many)
+        d.1 d.0

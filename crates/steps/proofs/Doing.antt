@@ -5,7 +5,7 @@ use mathlib.Core.List.{List}
 use Prim.Native.Nat.{ℕ}
 use lib.Dec.{ltb}
 use Rattle.steps.specs.State.{State}
-use Rattle.steps.specs.Call.{Call, Outcome, pack_to, refused, view, posts, lent}
+use Rattle.steps.specs.Call.{Call, Outcome, pack_to, view, posts}
 pub use Rattle.steps.specs.Call.{packs}
 use Rattle.steps.specs.Step.{step, refusing}
 use Rattle.steps.specs.Accounting.{is_refused}
@@ -75,13 +75,10 @@ module _ {Map : Type 0} (M : Kind Map) (c : Call) (m : Map) where
         packed = λ a b j r. p;
       }
 
-  -- what a refusal tells
-  pub told_refused : (n : ℕ) (ans : List ℕ) → M.Linked m → step c (M.abs m) ≡ (refusing c n, M.abs m) → ans ≡ coded (refused n)
-      → Told M c m m (lent c).out (lent c).out2 ans
-  told_refused n ans l e i =
-      record { outcome = refusing c n; does = does_refuse n l e; out_is = refl; out2_is = refl; ans_is = i }
-
   -- a call that adds a round and names no poster is refused by 16
-  pub told_strange : posts (view c).number ≡ true → M.Linked m → {b : Bool} → b ≡ ltb 15 (view c).poster → b ≡ true
-      → {ans : List ℕ} → ans ≡ coded (refused 16) → Told M c m m (lent c).out (lent c).out2 ans
-  told_strange p l is h {ans} i = told_refused 16 ans l (poster_first c (M.abs m) p (sym is ∙ h)) i
+  pub does_strange : posts (view c).number ≡ true → M.Linked m → {b : Bool} → b ≡ ltb 15 (view c).poster → b ≡ true → Does M c m (refusing c 16) m
+  does_strange p l is h = does_refuse 16 l (poster_first c (M.abs m) p (sym is ∙ h))
+
+  -- its outcome told by numbers
+  pub told : {m' : Map} {o : Outcome} {ans : List ℕ} → Does M c m o m' → ans ≡ coded o.answer → Told M c m m' o.slices.out o.slices.out2 ans
+  told {o = o} d i = record { outcome = o; does = d; out_is = refl; out2_is = refl; ans_is = i }

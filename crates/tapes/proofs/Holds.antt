@@ -1,31 +1,17 @@
 -- Laws of what is held in a slice piece by piece, as far as it is long. Assumes nothing.
-use Prim.Native.Nat.{ℕ, zero, suc, ◌+◌, ◌-◌, ◌≤◌, ◌<◌}
+use Prim.Native.Nat.{ℕ, ◌+◌, ◌-◌, ◌≤◌, ◌<◌}
 use mathlib.Core.Path.{◌≡◌, refl, sym, ap, subst, ◌∙◌}
-use mathlib.Core.List.{List, [], ◌∷◌, ◌++◌, append_assoc, append-nil}
+use mathlib.Core.List.{List, [], ◌++◌, append_assoc, append-nil}
 use native.Mathlib.Omega.{arith}
-use native.Mathlib.Numerals.{add-one}
 use mathlib.Core.Bool.{Bool, true, false}
 use borrow.Author.Tests.{leb-true, leb-false}
 use lib.Dec.{leb}
-use lib.ListN.{length, get_or, take, drop, set, length-take, length-set, length-append, get_or-eq_default}
-use lib.Seq.{take_all, take-suc-set, take-append_seam, drop-drop, drop-set-lt, get_or-take, get_or-drop}
+use lib.ListN.{length, get_or, take, drop, length-take, length-append, get_or-eq_default}
+use lib.Seq.{take_all, drop-drop, get_or-take, get_or-drop}
 use Rattle.parsing.specs.Split.{Held}
-
--- a list that is cut before and after it goes on
-pub cut_on : (n : ℕ) (x y : List ℕ) → take n (take n x ++ y) ≡ take n (x ++ y)
-cut_on zero x y = refl
-cut_on (suc n) [] y = refl
-cut_on (suc n) (a ∷ x) y = ap (λ (l : List ℕ). a ∷ l) (cut_on n x y)
-
--- the slice is full
-pub held_full : (x a : List ℕ) (at : ℕ) → at ≡ length a → Held x a at a at
-held_full x a at e =
-    record {
-      front = take_all at a (omega arith) ∙ sym (take-append_seam a x) ∙ ap (λ (l : List ℕ). take (length a) (l ++ x)) (sym (take_all at a (omega arith)));
-      past = refl;
-      within = omega arith;
-      long = refl;
-    }
+use Rattle.parsing.proofs.Splits.{take_front}
+use Rattle.tapes.specs.Kept.{Kept}
+use Rattle.tapes.specs.declared.rows.Page.{Page}
 
 pub held_none : (a : List ℕ) (at : ℕ) → at ≤ length a → Held [] a at a at
 held_none a at h =
@@ -34,17 +20,6 @@ held_none a at h =
       past = refl;
       within = h;
       long = refl;
-    }
-
-pub held_one : (a : List ℕ) (at v : ℕ) → at < length a → Held (v ∷ []) a at (set a at v) (at + 1)
-held_one a at v h =
-    record {
-      front =
-          rw (add-one at) (take-suc-set a at v h)
-          ∙ sym (take_all (length a) (take at a ++ (v ∷ [])) (omega (arith, length-take at a, length-append (take at a) (v ∷ []))));
-      past = drop-set-lt (at + 1) a at v (omega arith);
-      within = rw length-set (omega arith);
-      long = length-set a at v;
     }
 
 pub held_as : {x y a b : List ℕ} {at r : ℕ} → Held x a at b r → x ≡ y → Held y a at b r
@@ -94,7 +69,7 @@ come_less {was} {all} {now} {next} {x} {rest} {at} {place} {after} t h =
       come =
           ap (λ (l : List ℕ). take (length was) (l ++ rest)) h.front
           ∙ ap (λ (n : ℕ). take (length was) (take n (take place now ++ x) ++ rest)) t.long
-          ∙ cut_on (length was) (take place now ++ x) rest
+          ∙ take_front (length was) (take place now ++ x) rest
           ∙ ap (take (length was)) (append_assoc (take place now) x rest)
           ∙ t.come;
       past = h.past ∙ past_more was now place after (held_more t.within h) t.past;
@@ -122,9 +97,20 @@ held_join {x} {y} {a} {b} {c} {at} {r} {s} p q =
           q.front
           ∙ ap (λ (n : ℕ). take n (take r b ++ y)) p.long
           ∙ ap (λ (l : List ℕ). take (length a) (l ++ y)) p.front
-          ∙ cut_on (length a) (take at a ++ x) y
+          ∙ take_front (length a) (take at a ++ x) y
           ∙ ap (take (length a)) (append_assoc (take at a) x y);
       past = q.past ∙ past_more a b r s (held_more p.within q) p.past;
       within = q.within;
       long = q.long ∙ p.long;
     }
+
+-- the same of a page
+module _ {a b : Page} {x : List ℕ} (p : Kept a x b) where
+  pub kept_join : {c : Page} {y : List ℕ} → Kept b y c → Kept a (x ++ y) c
+  kept_join q = record { same_slice = q.same_slice ∙ p.same_slice; held = held_join p.held q.held }
+
+  pub kept_as : {y : List ℕ} → x ≡ y → Kept a y b
+  kept_as e = rw e at p
+
+pub kept_none : (a : Page) → a.at ≤ length a.out.now → Kept a [] a
+kept_none a h = record { same_slice = refl; held = held_none a.out.now a.at h }

@@ -1,13 +1,12 @@
 -- What is printed of a list of calls: its name, how many calls were run, and what the answers and the lent slices hold after them.
-use Rattle.std.specs.Prelude.{ℕ, zero, suc, ◌+◌, ◌-◌, ◌%◌, ◌≡◌, cond, List, [], ◌∷◌, ◌++◌, eqb, ltb, length, take, get_or}
+use Rattle.std.specs.Prelude.{ℕ, zero, suc, ◌+◌, ◌%◌, cond, List, [], ◌∷◌, ◌++◌, eqb, ltb, length, take, get_or}
 use Rattle.steps.specs.State.{Limits, limit}
 use Rattle.steps.specs.Call.{Call}
 use Rattle.steps.specs.Step.{outcomes, over, make_of}
 use Rattle.replay.specs.Tape.{decode, outs_of, outs2_of, answers_of}
-use Rattle.parsing.specs.Split.{gap, Held}
+use Rattle.parsing.specs.Split.{gap}
 use Rattle.printing.specs.Text.{decimal, spaced}
-use Rattle.tapes.specs.Parts.{part_of, rest_of, numbers_of, marks_of}
-use Rattle.tapes.specs.declared.Answered.{Answered}
+use Rattle.tapes.specs.Parts.{part_of, rest_of, left_after, numbers_of, marks_of}
 
 -- ' ran', and a line each: 'outs', 'outs2'
 abbrev pub ran_text : List ℕ
@@ -62,7 +61,7 @@ parts_text s =
 
 -- what is left of a text after its first list
 abbrev pub lists_after : List ℕ → List ℕ
-lists_after s = rest_of (rest_of (rest_of (rest_of (rest_of (rest_of (rest_of s))))))
+lists_after s = left_after (rest_of s)
 
 -- what is printed of the first list of a text: nothing, where no semicolon is left
 abbrev pub list_text : List ℕ → List ℕ
@@ -76,8 +75,3 @@ first_lists (suc n) s = list_text s ++ first_lists n (lists_after s)
 -- of all: they are not more than the bytes
 abbrev pub lists_text : List ℕ → List ℕ
 lists_text s = first_lists (length s) s
-
--- the first list of a text is run and printed to `out` from `at` on, as far as there is room. It takes the bytes up to those that are left
-pub record Answers (s was : List ℕ) (at : ℕ) (out : List ℕ) (r : Answered) : Type 0 where
-  pub text : Held (list_text s) was at out r.printed
-  pub eaten : r.eaten ≡ length s - length (lists_after s)

@@ -1,3 +1,2 @@
 -- What the contracts of `turn` cite.
 pub mod Turned
-pub mod Has

@@ -1,75 +1,54 @@
-// A call in place, by its number in the table of the calls (crate steps, `call_of`). Each of the first sixteen is lent all of
-// the map's arrays; they stand in crates of their own, eight to a function, since a function of more would take minutes to check. The last eight only read.
+// A call in place, by its number in the table of the calls (crate steps, `call_of`): the C interface and lists of calls name one so.
 
 #![tactic(auto)]
 
-ghost use Rattle.std.specs.Prelude.{ℕ, ◌<◌, ◌≤◌, List};
-ghost use Rattle.multimap.specs.Arrays.{Arrays};
-ghost use Rattle.multimap.specs.Lent.{given, lent, left};
+ghost use Rattle.answers.specs.Answers.{answer_of, answered};
 ghost use Rattle.multimap.specs.WellLinked.{WellLinked};
-ghost use Rattle.turn.specs.Turned.{Turned};
-ghost use Rattle.turn.specs.Has.{Has};
+ghost use Rattle.turn.specs.Turned.{Called};
 
-use multimap::{
-    Counts, Index, IndexLinks, KeyIndex, KeyLinks, Keys, Lengths, Taken, ValueLinks, Values,
-};
+use answers::{Answer, IntoAnswer, Refusal};
+use multimap::ListOrderedMultimap;
 
-// Makes the call with the number `op`; from 24 on that is `values_len`. `poster`, `k` and `v` are its arguments.
-// A slice that it does not have is left as it is.
-#[rattlefmt::skip]
-pub fn om_call(
-    keys: &mut Keys, lengths: &mut Lengths, next_key: &mut KeyLinks, previous_key: &mut KeyLinks,
-    values: &mut Values, key_index: &mut KeyIndex, next_value: &mut ValueLinks, previous_value: &mut ValueLinks,
-    next_index: &mut IndexLinks, previous_index: &mut IndexLinks, index: &mut Index,
-    members: &mut Counts, rounds: &mut Counts, taken: &mut Taken,
-    op: u64, poster: u64, k: u64, v: u64, out: &mut [u64], out2: &mut [u64], marks: &[u8], answer: &mut [u64; 4],
-)
-    requires { WellLinked (lent keys lengths next_key previous_key values key_index next_value previous_value next_index previous_index index members rounds taken) }
-    ensures { let g : Arrays = given keys lengths next_key previous_key values key_index next_value previous_value next_index previous_index index members rounds taken in Turned op poster k v g (left keys lengths next_key previous_key values key_index next_value previous_value next_index previous_index index members rounds taken) out.old out2.old marks.now out.new out2.new answer.new }
+// Makes the call with the number `op`; from 24 on that is `values_len`. `poster`, `k` and `v` are its arguments. A slice that it does not have is
+// left as it is.
+pub fn call(
+    map: &mut ListOrderedMultimap,
+    op: u64,
+    poster: u64,
+    k: u64,
+    v: u64,
+    out: &mut [u64],
+    out2: &mut [u64],
+    marks: &[u8],
+) -> Result<Answer, Refusal>
+    requires { WellLinked map.old }
+    ensures { Called op poster k v map.old map.new out.old out2.old marks.now out.new out2.new (answered answer_of result) }
 {
-    if op < 8 {
-        turn_first::call_below_8(
-            keys, lengths, next_key, previous_key, values, key_index, next_value, previous_value,
-            next_index, previous_index, index, members, rounds, taken, op, poster, k, v, out, answer,
-        );
-        return;
-    }
-    if op < 16 {
-        turn_second::call_below_16(
-            keys, lengths, next_key, previous_key, values, key_index, next_value, previous_value,
-            next_index, previous_index, index, members, rounds, taken, op, poster, k, v, marks, answer,
-        );
-        return;
-    }
-    read_from_16(
-        keys, lengths, next_key, values, key_index, next_value,
-        next_index, index, members, rounds, taken, op, k, out, out2, answer,
-    );
-}
-
-// Makes a call that only reads.
-#[rattlefmt::skip]
-fn read_from_16<'a>(
-    keys: &'a Keys, lengths: &'a Lengths, next_key: &'a KeyLinks, values: &'a Values, key_index: &'a KeyIndex, next_value: &'a ValueLinks,
-    next_index: &'a IndexLinks, index: &'a Index, members: &'a Counts, rounds: &'a Counts, taken: &Taken,
-    op: u64, k: u64, out: &mut [u64], out2: &mut [u64], answer: &mut [u64; 4],
-)
-    requires { 16 ≤ op }
-    ensures { (α : Arrays) → WellLinked α
-        → Has α keys.now lengths.now next_key.now values.now
-        key_index.now next_value.now next_index.now index.now
-        members.now rounds.now taken.now
-        → (poster v : ℕ) (marks : List ℕ) → Turned op poster k v α α out.old out2.old marks out.new out2.new
-        answer.new }
-{
-    match op {
-        16 => reading::om_get_all(keys, lengths, values, next_index, index, k, out, answer),
-        17 => reading::om_entry_len(keys, lengths, index, k, answer),
-        18 => reading::om_contains_key(keys, index, k, answer),
-        19 => reading::om_keys(keys, next_key, members, out, answer),
-        20 => reading::om_keys_len(members, answer),
-        22 => reading::om_iter(keys, values, key_index, next_value, rounds, out, out2, answer),
-        23 => reading::write_counters(taken, out, answer),
-        _ => reading::om_values_len(rounds, answer),
-    }
+    let answer = match op {
+        0 => adding::append(map, poster, k, v)?.into_answer(),
+        1 => inserting::insert(map, poster, k, v)?.into_answer(),
+        2 => inserting_all::insert_all(map, poster, k, v, out)?.into_answer(),
+        3 => removing::remove(map, k).into_answer(),
+        4 => removing::remove_all(map, k, out)?.into_answer(),
+        5 => reading::entry(map, k).into_answer(),
+        6 => entries::occupied_append(map, poster, k, v)?.into_answer(),
+        7 => entries::occupied_insert(map, poster, k, v)?.into_answer(),
+        8 => entries::occupied_remove_entry(map, k)?.into_answer(),
+        9 => entries::vacant_insert(map, poster, k, v)?.into_answer(),
+        10 => popping::pop_front(map).into_answer(),
+        11 => popping_back::pop_back(map).into_answer(),
+        12 => retaining::retain(map, marks)?.into_answer(),
+        13 => packing::pack_to(map, k, v)?.into_answer(),
+        14 => packing::clear(map).into_answer(),
+        15 => reading::get(map, k).into_answer(),
+        16 => reading::get_all(map, k, out)?.into_answer(),
+        17 => reading::entry_len(map, k).into_answer(),
+        18 => reading::contains_key(map, k).into_answer(),
+        19 => reading::keys(map, out)?.into_answer(),
+        20 => reading::keys_len(map).into_answer(),
+        22 => reading::iter(map, out, out2)?.into_answer(),
+        23 => reading::write_counters(map, out).into_answer(),
+        _ => reading::values_len(map).into_answer(),
+    };
+    Ok(answer)
 }

@@ -5,3 +5,4 @@ pub mod Fill
 pub mod Linking
 pub mod Chaining
 pub mod Whole
+pub mod Telling

@@ -3,12 +3,23 @@ use Rattle.std.specs.Prelude.{ℕ, ◌+◌, ◌≤◌, ◌<◌, ◌≡◌, Bool,
 use Rattle.index.specs.Agree.{Decides}
 use Rattle.links.specs.Route.{bit, tally}
 use Rattle.links.specs.Places.{Places}
-use Rattle.links.specs.Stores.{at}
+use Rattle.links.specs.declared.Counts.{Counts}
 
--- a list of places whose links and counts are arrays
-abbrev pub list_of : (next previous : List ℕ) → ℕ → (counts : List ℕ) → Places
-list_of next previous root counts =
-    record { next = at next; prev = at previous; root = root; len = at counts 0; fresh = at counts 1; free = at counts 2 }
+-- of places with a number each: the number of the place that stands at q, of the place 0 past the end
+abbrev pub place_at : {P : Type 0} → (number : P → ℕ) (of : ℕ → P) → List P → ℕ → ℕ
+place_at number of t q = number (get_or t q (of 0))
+
+-- a list of such places, whose links are arrays
+abbrev pub list_of : {P : Type 0} → (number : P → ℕ) (of : ℕ → P) → (next previous : List P) → P → Counts → Places
+list_of number of next previous root counts =
+    record {
+      next = place_at number of next;
+      prev = place_at number of previous;
+      root = number root;
+      len = counts.len;
+      fresh = counts.fresh;
+      free = number (of counts.free);
+    }
 
 -- 1 where the place q is marked, else 0
 abbrev pub marks : List Bool → ℕ → ℕ

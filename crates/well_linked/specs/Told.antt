@@ -1,4 +1,4 @@
--- What the exported check says by a number.
+-- What the check says by a number, as a C interface has it.
 use Rattle.std.specs.Prelude.{ℕ, ◌≡◌, ◌⊎◌}
 
 -- 1 where P, 0 where not

@@ -1,33 +1,25 @@
--- `copying::copy` meets its contract. The loop's invariant: i values are copied, and the walk is at the next place. The measure is how many
--- are left. Assumes nothing.
+-- `copying::copy` meets its contract. The loop's invariant: so many values are copied, and the walk is at the next place. Assumes nothing.
+use Prim.Native.Nat.{ℕ}
+use mathlib.Core.Path.{ap, ◌∙◌}
+use lib.ListN.{get_or}
+use lib.Seq.{length-take-le}
 use native.Mathlib.Omega.{arith}
-use Rattle.links.specs.Stores.{at}
-use Rattle.copying.proofs.Copying.{none_copied, still_long, slot, one_copied, all_copied, writing_none, writing_all}
+use borrow.Author.Rules.{rules}
+use Rattle.copying.proofs.Copying.{none_copied, one_copied, all_copied, over_front, long, writing_none, writing_all}
 use Rattle.copying.proofs.copy.Goals as goal
 
 pub returns-then-out-end : goal.returns-then-out-end
-returns-then-out-end c =
-    writing_none c.args.values.now c.args.next.now c.args.first c.args.n c.args.out.now c.if-out-end.true
+returns-then-out-end g c = writing_none _ _ _ c.args.n _ c.if-out-end.true
 
-pub loop-i-init : goal.loop-i-init
-loop-i-init c =
-    none_copied (at c.args.values.now) c.args.next.now c.args.first c.args.n c.args.out.now (omega arith)
+pub loop-slot-init : goal.loop-slot-init
+loop-slot-init g c = none_copied _ _ _ c.args.n _ (omega (arith, length-take-le c.args.n c.args.out.now c.if-out-end.false))
 
-pub bounds-out-i : goal.bounds-out-i
-bounds-out-i c = slot c.loop-i.invariant c.loop-i-test.true
-
-pub loop-i-smaller : goal.loop-i-smaller
-loop-i-smaller c = omega (arith, c.loop-i-test.true)
-
-pub loop-i-preserved : goal.loop-i-preserved
-loop-i-preserved c =
-    one_copied c.loop-i.invariant c.loop-i-test.true c.get_wide-value.ensures c.get-x.ensures
-
-pub shape_of-out : goal.shape_of-out
-shape_of-out c = still_long c.loop-i.invariant
+pub loop-slot-preserved : goal.loop-slot-preserved
+loop-slot-preserved g c =
+    one_copied c.loop-slot.invariant (search rules)
+    (c.get_or.ensures ∙ ap (λ (i : ℕ). get_or c.args.values.now i 0) c.index.ensures) c.after-x.ensures
 
 pub returns : goal.returns
-returns c =
-    let l = c.loop-i in
-    writing_all c.args.values.now c.args.next.now c.args.first c.args.n c.args.out.now l.invariant.fits _
-    (all_copied l.invariant (omega (arith, c.loop-i-test.false)))
+returns g c =
+    writing_all _ _ _ c.args.n _ c.if-out-end.false _
+    (over_front _ c.args.n c.args.out.now c.if-out-end.false (long _ _ _ c.args.n c.args.out.now) (all_copied c.loop-slot.invariant (search rules)))

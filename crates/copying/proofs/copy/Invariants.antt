@@ -1,10 +1,9 @@
-use Prim.Native.Nat.{◌-◌}
-use Rattle.links.specs.Stores.{at}
+use lib.ListN.{get_or}
+use Rattle.links.specs.Stores.{at_in}
 use Rattle.copying.proofs.Copying.{Copying}
 use Rattle.copying.proofs.copy.Given as goal
 
-abbrev pub invariant-loop-i : goal.invariant-loop-i
-invariant-loop-i l = Copying (at l.values) l.next l.initial.x l.end l.initial.out l.i l.x l.out
-
-abbrev pub decreases-loop-i : goal.decreases-loop-i
-decreases-loop-i l = l.end - l.i
+abbrev pub invariant-loop-slot : goal.invariant-loop-slot
+invariant-loop-slot g l =
+    let P = g.P.Place in
+    Copying (λ x. get_or l.values (P.number x) 0) (at_in P.number P.of l.next) l.fn.first l.n l.initial.slot-items l.slot-index l.x l.slot-items

@@ -1,4 +1,4 @@
--- `fnv::hash` meets its contract: two bytes, and the six above them. Assumes nothing.
+-- `fnv::hash` meets its contract: two bytes, two bytes, and the four above them. Assumes nothing.
 use Rattle.std.proofs.Common.{refl, arith}
 use Rattle.fnv.specs.Fnv.{hash_of}
 use Rattle.fnv.proofs.Twos.{two_more}
@@ -6,8 +6,14 @@ use Rattle.fnv.proofs.hash.Goals as goal
 
 pub returns-then-rest-eq0 : goal.returns-then-rest-eq0
 unfolding hash_of
-returns-then-rest-eq0 c = two_more 6 _ _ _ 0 c.take_two-two.ensures (omega arith) c.take_six.ensures
+returns-then-rest-eq0 c = two_more 6 _ _ _ 0 c.take-two.ensures (omega arith) c.take.ensures
 
-pub returns-else-rest-eq0 : goal.returns-else-rest-eq0
+pub returns-then-upper-eq0 : goal.returns-then-upper-eq0
 unfolding hash_of
-returns-else-rest-eq0 c = two_more 6 _ _ _ _ c.take_two-two.ensures refl c.take_six-else-rest-eq0.ensures
+returns-then-upper-eq0 c =
+    two_more 6 _ _ _ _ c.take-two.ensures refl (two_more 4 _ _ _ 0 c.take-four.ensures (omega arith) c.take-then-upper-eq0.ensures)
+
+pub returns-else-upper-eq0 : goal.returns-else-upper-eq0
+unfolding hash_of
+returns-else-upper-eq0 c =
+    two_more 6 _ _ _ _ c.take-two.ensures refl (two_more 4 _ _ _ _ c.take-four.ensures refl c.take-else-upper-eq0.ensures)

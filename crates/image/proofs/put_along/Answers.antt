@@ -1,54 +1,32 @@
 -- `image::put_along` meets its contract. The loop's invariant is `Running`; its laws are those of proofs/Runs.antt. Assumes nothing.
-use Prim.Native.Nat.{ℕ, ◌+◌, ◌*◌, ◌^◌, ◌≤◌, ◌<◌}
+use mathlib.Core.Path.{refl, ap, ◌∙◌}
 use native.Mathlib.Omega.{arith}
-use mathlib.Core.Path.{ap, ◌∙◌}
-use mathlib.Core.List.{List}
-use lib.ListN.{length}
 use Rattle.links.specs.Stores.{at}
-use Rattle.image.proofs.Runs.{running_start, running_one, running_all, sizes_long, sizes_stored, sizes_past}
+use Rattle.image.proofs.Writes.{stores}
+use Rattle.image.proofs.Runs.{running_start, running_one, running_all, sizes_stored, sizes_past}
 use Rattle.image.proofs.put_along.Goals as goal
 
-pub loop-i-init : goal.loop-i-init
-loop-i-init c =
-    let keys : List ℕ = c.args.keys.now in
-    let values : List ℕ = c.args.values.now in
-    let owners : List ℕ = c.args.key_index.now in
-    let next : List ℕ = c.args.next_value.now in
-    running_start keys values owners next c.args.n c.args.m _ c.after-x.ensures _
-    (sizes_stored keys values owners next c.args.n c.args.m c.args.out.now _ _ c.put.ensures
-    c.put-2.ensures c.requires)
+pub loop-init : goal.loop-init
+loop-init c =
+    let m = c.args.map.now in
+    running_start m.keys m.values m.key_index m.next_value m.rounds.len m.members.len _ (c.after-x.ensures ∙ ap (at m.next_value) c.new.ensures) _
+    (sizes_stored m.keys m.values m.key_index m.next_value m.rounds.len m.members.len c.args.out.now _ _
+    (stores c.args.out.now 0 4 c.put.ensures c.to_le_bytes.ensures c.from.ensures)
+    (stores c.put.new.out 4 4 c.put-2.ensures c.to_le_bytes-2.ensures c.from-2.ensures) c.requires)
 
-pub overflow_add-first : goal.overflow_add-first
-overflow_add-first c =
-    let small : 8 + 16 * c.args.n < 2 ^ 64 = omega arith in
-    record { fits = omega (arith, c.loop-i.invariant.first_is, c.loop-i-test.true, small) }
-
-pub overflow_add-second-in-loop-i : goal.overflow_add-second-in-loop-i
-overflow_add-second-in-loop-i c =
-    let small : 8 + 16 * c.args.n < 2 ^ 64 = omega arith in
-    record { fits = omega (arith, c.loop-i.invariant.second_is, c.loop-i-test.true, small) }
-
-pub overflow_add-i : goal.overflow_add-i
-overflow_add-i c =
-    let small : 8 + 16 * c.args.n < 2 ^ 64 = omega arith in
-    record { fits = omega (arith, c.loop-i-test.true, small) }
-
-pub loop-i-preserved : goal.loop-i-preserved
-loop-i-preserved c =
-    let keys : List ℕ = c.args.keys.now in
-    let values : List ℕ = c.args.values.now in
-    let owners : List ℕ = c.args.key_index.now in
-    let next : List ℕ = c.args.next_value.now in
-    let room : 8 + 16 * c.args.n ≤ length c.put-2.new.out = rw (sizes_long keys values owners next c.args.n c.args.m c.args.out.now _ _ c.put.ensures c.put-2.ensures) c.requires in
-    running_one keys values owners next c.args.n c.args.m c.loop-i.invariant room c.loop-i-test.true
-    _ _ _ (c.member-member.ensures ∙ ap (at keys) c.owner-key.ensures) c.round-round.ensures c.after-x-in-loop-i.ensures
-    _ _ c.put-in-loop-i.ensures c.put-in-loop-i-2.ensures
+pub loop-preserved : goal.loop-preserved
+loop-preserved c =
+    let m = c.args.map.now in
+    running_one m.keys m.values m.key_index m.next_value m.rounds.len m.members.len c.loop.invariant
+    (omega (arith, c.put.auto.out, c.put-2.auto.out, c.requires)) c.loop-test.true
+    _ _ _ (c.member.ensures ∙ ap (at m.keys) c.owner.ensures) c.round.ensures c.after-x-in-loop.ensures _ _
+    (stores c.loop.out c.loop.first 8 c.put-in-loop.ensures c.to_le_bytes-in-loop.ensures refl)
+    (stores c.put-in-loop.new.out c.loop.second 8 c.put-in-loop-2.ensures c.to_le_bytes-in-loop-2.ensures refl)
 
 pub returns : goal.returns
 returns c =
-    let keys : List ℕ = c.args.keys.now in
-    let values : List ℕ = c.args.values.now in
-    let owners : List ℕ = c.args.key_index.now in
-    let next : List ℕ = c.args.next_value.now in
-    running_all keys values owners next c.args.n c.args.m c.loop-i.invariant c.loop-i-test.false
-    ∙ sizes_past keys values owners next c.args.n c.args.m c.args.out.now _ _ c.put.ensures c.put-2.ensures
+    let m = c.args.map.now in
+    running_all m.keys m.values m.key_index m.next_value m.rounds.len m.members.len c.loop.invariant c.loop-test.false
+    ∙ sizes_past m.keys m.values m.key_index m.next_value m.rounds.len m.members.len c.args.out.now _ _
+    (stores c.args.out.now 0 4 c.put.ensures c.to_le_bytes.ensures c.from.ensures)
+    (stores c.put.new.out 4 4 c.put-2.ensures c.to_le_bytes-2.ensures c.from-2.ensures)

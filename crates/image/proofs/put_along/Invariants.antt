@@ -1,10 +1,5 @@
-use Prim.Native.Nat.{◌-◌}
-use Rattle.image.specs.Running.{Running, image_along}
+use Rattle.image.specs.Running.{Running, image_in}
 use Rattle.image.proofs.put_along.Given as goal
 
-abbrev pub invariant-loop-i : goal.invariant-loop-i
-invariant-loop-i l =
-    Running l.next_value (image_along l.keys l.values l.key_index l.next_value l.n l.m) l.initial.out l.n l.i l.x.0 l.first l.second l.out
-
-abbrev pub decreases-loop-i : goal.decreases-loop-i
-decreases-loop-i l = l.n - l.i
+abbrev pub invariant-loop : goal.invariant-loop
+invariant-loop l = Running l.map.next_value (image_in l.map) l.initial.out l.map.rounds.len l.counter l.x l.first l.second l.out

@@ -1,65 +1,31 @@
--- `image::restore` meets its contract, by the laws of proofs/Restores.antt. Assumes nothing.
-use Prim.Native.Nat.{ℕ, ◌+◌, ◌*◌}
-use mathlib.Core.Path.{◌≡◌, sym, ap, ◌∙◌}
-use mathlib.Core.List.{List}
-use native.Mathlib.Omega.{arith}
-use lib.ListN.{take, drop}
-use Rattle.image.specs.Bytes.{numbers}
-use Rattle.image.proofs.Numbers.{rest}
-use Rattle.image.proofs.Restores.{many_members, many_rounds, restored_many, restored_by}
+-- `image::restore` meets its contract, by the laws of proofs/Appends.antt and Restores.antt. Assumes nothing.
+use Prim.Native.Nat.{◌+◌, ◌*◌}
+use Rattle.image.proofs.Numbers.{nth_read}
+use Rattle.image.proofs.Appends.{building_one, building_stuck, building_all}
+use Rattle.image.proofs.Restores.{restored_many, restored_by}
 use Rattle.image.proofs.restore.Goals as goal
 
-pub slice_bounds-append_all-end : goal.slice_bounds-append_all-end
-slice_bounds-append_all-end c =
-    let bytes : List ℕ = c.args.s.now in
-    let n : ℕ = c.args.n in
-    let xs : List ℕ = take n c.read_numbers-ks.result in
-    let ys : List ℕ = take n c.read_numbers-vs.result in
-    let xs_are : xs ≡ numbers n (drop 8 bytes) = c.read_numbers-ks.ensures ∙ ap (numbers n) (rest bytes 8) in
-    let ys_are : ys ≡ numbers n (drop (8 + 8 * n) bytes) = c.read_numbers-vs.ensures ∙ ap (numbers n) (rest bytes (8 + 8 * n)) in
-    sym (many_members _ bytes c.requires.0.limited.allowed n c.args.m c.requires.2 xs ys xs_are ys_are)
+pub returns-in_default : goal.returns-in_default
+returns-in_default c =
+    let s = c.args.s.now in
+    let n = c.args.n in
+    let i = c.loop-i.i in
+    let allowed = c.requires.0.limited.allowed in
+    restored_many _ s allowed c.requires.2
+    (building_stuck _ s n c.loop-i.invariant allowed.rounds c.requires.2.few c.loop-i-test.true
+    (nth_read s 8 n i c.loop-i-test.true c.bytes_at.ensures c.from_le_bytes-k.ensures)
+    (nth_read s (8 + 8 * n) n i c.loop-i-test.true c.bytes_at-in-loop-i.ensures c.from_le_bytes-v.ensures) c.in_default.ensures)
 
-pub slice_bounds-append_all-end-2 : goal.slice_bounds-append_all-end-2
-slice_bounds-append_all-end-2 c =
-    let bytes : List ℕ = c.args.s.now in
-    let n : ℕ = c.args.n in
-    let xs : List ℕ = take n c.read_numbers-ks.result in
-    let ys : List ℕ = take n c.read_numbers-vs.result in
-    let xs_are : xs ≡ numbers n (drop 8 bytes) = c.read_numbers-ks.ensures ∙ ap (numbers n) (rest bytes 8) in
-    let ys_are : ys ≡ numbers n (drop (8 + 8 * n) bytes) = c.read_numbers-vs.ensures ∙ ap (numbers n) (rest bytes (8 + 8 * n)) in
-    sym (many_rounds _ bytes c.requires.0.limited.allowed n c.args.m c.requires.2 xs ys xs_are ys_are)
+pub loop-i-preserved : goal.loop-i-preserved
+loop-i-preserved c =
+    let s = c.args.s.now in
+    let n = c.args.n in
+    let i = c.loop-i.i in
+    building_one _ s n c.loop-i.invariant c.requires.0.limited.allowed.rounds c.requires.2.few c.loop-i-test.true
+    (nth_read s 8 n i c.loop-i-test.true c.bytes_at.ensures c.from_le_bytes-k.ensures)
+    (nth_read s (8 + 8 * n) n i c.loop-i-test.true c.bytes_at-in-loop-i.ensures c.from_le_bytes-v.ensures) c.in-Ok.ensures
 
-pub append_all-all-requires : goal.append_all-all-requires
-append_all-all-requires c =
-    let bytes : List ℕ = c.args.s.now in
-    let n : ℕ = c.args.n in
-    let xs : List ℕ = take n c.read_numbers-ks.result in
-    let ys : List ℕ = take n c.read_numbers-vs.result in
-    let xs_are : xs ≡ numbers n (drop 8 bytes) = c.read_numbers-ks.ensures ∙ ap (numbers n) (rest bytes 8) in
-    let ys_are : ys ≡ numbers n (drop (8 + 8 * n) bytes) = c.read_numbers-vs.ensures ∙ ap (numbers n) (rest bytes (8 + 8 * n)) in
-    let ks = many_members _ bytes c.requires.0.limited.allowed n c.args.m c.requires.2 xs ys xs_are ys_are in
-    let vs = many_rounds _ bytes c.requires.0.limited.allowed n c.args.m c.requires.2 xs ys xs_are ys_are in
-    (c.requires.0, c.requires.1, omega (arith, ks, c.requires.2.few), ks ∙ sym vs)
-
-pub returns-then-all : goal.returns-then-all
-returns-then-all c =
-    let bytes : List ℕ = c.args.s.now in
-    let n : ℕ = c.args.n in
-    let xs : List ℕ = take n c.read_numbers-ks.result in
-    let ys : List ℕ = take n c.read_numbers-vs.result in
-    let xs_are : xs ≡ numbers n (drop 8 bytes) = c.read_numbers-ks.ensures ∙ ap (numbers n) (rest bytes 8) in
-    let ys_are : ys ≡ numbers n (drop (8 + 8 * n) bytes) = c.read_numbers-vs.ensures ∙ ap (numbers n) (rest bytes (8 + 8 * n)) in
-    restored_by _ bytes c.requires.0.limited.allowed n c.args.m c.requires.2 xs ys xs_are ys_are _ _
-    c.append_all-all.ensures c.if-all.true _
-    c.get-met.ensures
-
-pub returns-else-all : goal.returns-else-all
-returns-else-all c =
-    let bytes : List ℕ = c.args.s.now in
-    let n : ℕ = c.args.n in
-    let xs : List ℕ = take n c.read_numbers-ks.result in
-    let ys : List ℕ = take n c.read_numbers-vs.result in
-    let xs_are : xs ≡ numbers n (drop 8 bytes) = c.read_numbers-ks.ensures ∙ ap (numbers n) (rest bytes 8) in
-    let ys_are : ys ≡ numbers n (drop (8 + 8 * n) bytes) = c.read_numbers-vs.ensures ∙ ap (numbers n) (rest bytes (8 + 8 * n)) in
-    restored_many _ bytes c.requires.0.limited.allowed n c.args.m c.requires.2 xs ys xs_are ys_are _ _
-    c.append_all-all.ensures c.if-all.false
+pub returns : goal.returns
+returns c =
+    restored_by _ c.args.s.now c.requires.0.limited.allowed c.requires.2 c.loop-i.map c.loop-i.invariant.linked
+    (building_all _ c.args.s.now c.args.n c.loop-i.invariant c.loop-i-test.false)

@@ -1,53 +1,52 @@
--- `index::agrees` meets its contract. The loops' invariants: each place passed is right, and then each member place passed.
+-- `index::agrees` meets its contract: each place is right, and then each member place; or one is not.
 -- Assumes nothing.
-use mathlib.Core.Path.{◌≡◌}
-use native.Mathlib.Omega.{arith}
-use borrow.Author.Count.{below_more}
-use borrow.Author.Rules.{rules}
-use lib.ListN.{length}
-use Rattle.index.specs.Agree.{PlaceOk, KeyOk}
-use Rattle.index.proofs.Agree.{right, place_right, key_right, if_true, if_false}
+use Rattle.std.proofs.Common.{◌≡◌, ◌∙◌, ◌+◌, refl, sym, subst, ℕ, ◌<◌, Bool, true, false, length, get_or, arith, rules}
+use Rattle.std.proofs.lemmas.Iterator.{cases_from_all, YieldsList-from_range}
+use Rattle.std.proofs.lemmas.List.FromFn.{length-range_with_len, get_or-range_with_len}
+use Rattle.std.specs.Bool.{MatchBool}
+use Rattle.std.specs.List.{AllWithin, HoldsAt, range_with_len}
+use Rattle.index.specs.Agree.{PlaceOk, KeyOk, Decides}
+use Rattle.index.proofs.Agree.{right, place_right, key_right, decides_map, if_true, if_false}
 use Rattle.index.proofs.agrees.Goals as goal
 
-pub loop-at-init : goal.loop-at-init
-loop-at-init c = (omega arith, λ p l. absurd (omega arith))
+number : (n k : ℕ) → k < n → get_or (range_with_len 0 n) k 0 ≡ k
+number n k l = let z : 0 + k ≡ k = omega arith in get_or-range_with_len 0 n k 0 l ∙ z
 
-pub returns-then-not-place_ok : goal.returns-then-not-place_ok
-returns-then-not-place_ok c =
+-- what `all` says of a test of the numbers below n
+below : (r : Bool) (n : ℕ) (P : ℕ → Type 0)
+    → MatchBool r (AllWithin P (range_with_len 0 n) 0 (length (range_with_len 0 n)))
+    ((k : ℕ) × (k < length (range_with_len 0 n)) × HoldsAt (λ x. P x → ⊥) (range_with_len 0 n) k)
+    → Decides r ((k : ℕ) → k < n → P k)
+below true n P w = λ k l. subst P (number n k l) (w k 0 (omega arith) (rw length-range_with_len l))
+below false n P w =
+    let l : w.0 < n = rw length-range_with_len at w.1 in
+    λ each. w.2 0 (subst P (sym (number n w.0 l)) (each w.0 l))
+
+pub returns-then-all : goal.returns-then-all
+returns-then-all c =
     let a = c.args in
-    λ ks u h.
-    if_false c.place_ok.result {P = PlaceOk a.index.now a.keys.now a.used.now c.loop-at.at} c.if-not-place_ok.true c.place_ok.ensures
-    (place_right a.index.now a.keys.now a.used.now ks u h c.loop-at.at (search rules))
+    let P = PlaceOk a.index.now a.keys.now a.used.now in
+    let Q = KeyOk a.index.now a.keys.now a.used.now in
+    let places =
+    below c.all.result 512 P
+    (cases_from_all _ _ c.all.result P (λ p. P p → ⊥) c.all.ensures.ran (YieldsList-from_range 0 512 512 refl refl) (λ x q k. search rules)
+    (λ x q k. search rules))
+    in
+    let keys =
+    below c.all-then-all.result 256 Q
+    (cases_from_all _ _ c.all-then-all.result Q (λ p. Q p → ⊥) c.all-then-all.ensures.ran (YieldsList-from_range 0 256 256 refl refl)
+    (λ x q k. search rules) (λ x q k. search rules))
+    in
+    λ ks u.
+    decides_map c.all-then-all.result (right _ _ _ ks u c.told-index (if_true c.all.result c.if-all.true places)) (key_right _ _ _ _ u) keys
 
-pub loop-at-preserved : goal.loop-at-preserved
-loop-at-preserved c = (
-  search rules,
-  below_more _ _ c.loop-at.invariant.1 (if_true c.place_ok.result c.if-not-place_ok.false c.place_ok.ensures),
-)
-
-pub loop-key-init : goal.loop-key-init
-loop-key-init c = (omega arith, λ p l. c.loop-at.invariant.1 p (omega arith), λ k l. absurd (omega arith))
-
-pub returns-then-not-key_ok : goal.returns-then-not-key_ok
-returns-then-not-key_ok c =
+pub returns-else-all : goal.returns-else-all
+returns-else-all c =
     let a = c.args in
-    λ ks u h.
-    if_false c.key_ok.result {P = KeyOk a.index.now a.keys.now a.used.now c.loop-key.key} c.if-not-key_ok.true c.key_ok.ensures
-    (key_right a.index.now a.keys.now a.used.now ks u h c.loop-key.key (search rules))
-
-pub loop-key-preserved : goal.loop-key-preserved
-loop-key-preserved c =
-    let a = c.args in
-    let l = c.loop-key in (
-      search rules,
-      l.invariant.1,
-      below_more _ _ l.invariant.2
-          (if_true c.key_ok.result {P = KeyOk a.index.now a.keys.now a.used.now l.key} c.if-not-key_ok.false c.key_ok.ensures),
-    )
-
-pub returns : goal.returns
-returns c =
-    let a = c.args in
-    let l = c.loop-key in
-    let size : length a.index.now ≡ 512 = c.places-1.given in
-    λ ks u. right a.index.now a.keys.now a.used.now ks u size l.invariant.1 (λ k lk. l.invariant.2 k (omega arith))
+    let P = PlaceOk a.index.now a.keys.now a.used.now in
+    let places =
+    below c.all.result 512 P
+    (cases_from_all _ _ c.all.result P (λ p. P p → ⊥) c.all.ensures.ran (YieldsList-from_range 0 512 512 refl refl) (λ x q k. search rules)
+    (λ x q k. search rules))
+    in
+    λ ks u. rw c.if-all.false (λ h. if_false c.all.result c.if-all.false places (place_right _ _ _ _ u h))

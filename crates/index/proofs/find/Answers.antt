@@ -1,47 +1,39 @@
 -- `index::find` meets its contract. The loop's invariant: what is left of the search, from the present place on, gives the answer.
 -- Assumes nothing.
-use mathlib.Core.Path.{◌≡◌, ◌∙◌, refl, sym}
-use Prim.Native.Nat.{◌+◌, ◌-◌}
-use native.Mathlib.Omega.{arith}
+use Rattle.std.proofs.Common.{◌≡◌, ◌∙◌, sym, refl, ◌+◌, ◌-◌, ◌%◌, arith}
 use Rattle.index.specs.Table.{home}
 use Rattle.index.specs.Search.{search as searched}
 use Rattle.index.proofs.Search.{home_lt, look_none, look_empty, look_hit, look_on}
 use Rattle.index.proofs.find.Goals as goal
 
-pub loop-looked-init : goal.loop-looked-init
+pub loop-before-init : goal.loop-before-init
 unfolding searched
-loop-looked-init c =
-    let e : c.start-place.result ≡ home c.args.member = c.start-place.ensures in
-    rw e (omega arith, home_lt c.args.member, refl)
-
-pub overflow_add-looked : goal.overflow_add-looked
-overflow_add-looked c = omega arith
+loop-before-init c =
+    let l = home_lt c.args.member in
+    let first : (c.start-first.result + 0) % 512 ≡ home c.args.member = omega arith in
+    rw first refl
 
 pub returns-then-key-ge-KEYS : goal.returns-then-key-ge-KEYS
 returns-then-key-ge-KEYS c =
-    let l = c.loop-looked in
-    sym (l.invariant.2 ∙ look_empty _ _ _ _ _ (512 - l.looked) (512 - (l.looked + 1)) (omega arith) c.if-key-ge-KEYS.true)
+    let l = c.loop-before in
+    sym (l.invariant ∙ look_empty _ _ _ _ _ (512 - l.before) (512 - (l.before + 1)) (omega arith) c.if-key-ge-KEYS.true)
 
 pub returns-then-keys-key : goal.returns-then-keys-key
 returns-then-keys-key c =
-    let l = c.loop-looked in
-    sym (l.invariant.2 ∙ look_hit _ _ _ _ _ (512 - l.looked) (512 - (l.looked + 1)) (omega arith) c.if-key-ge-KEYS.false c.if-keys-key.true)
+    let l = c.loop-before in
+    sym (l.invariant ∙ look_hit _ _ _ _ _ (512 - l.before) (512 - (l.before + 1)) (omega arith) c.if-key-ge-KEYS.false c.if-keys-key.true)
 
-pub overflow_add-place : goal.overflow_add-place
-overflow_add-place c = omega arith
-
-pub loop-looked-smaller : goal.loop-looked-smaller
-loop-looked-smaller c = omega arith
-
-pub loop-looked-preserved : goal.loop-looked-preserved
-loop-looked-preserved c =
-    let l = c.loop-looked in (
-      omega arith,
-      omega arith,
-      l.invariant.2 ∙ look_on _ _ _ _ _ (512 - l.looked) (512 - (l.looked + 1)) (omega arith) c.if-key-ge-KEYS.false c.if-keys-key.false,
-    )
+pub loop-before-preserved : goal.loop-before-preserved
+loop-before-preserved c =
+    let l = c.loop-before in
+    let next : ((c.start-first.result + l.before) % 512 + 1) % 512 ≡ (c.start-first.result + (l.before + 1)) % 512 = omega arith in
+    rw (← next)
+    (l.invariant ∙ look_on _ _ _ _ _ (512 - l.before) (512 - (l.before + 1)) (omega arith) c.if-key-ge-KEYS.false c.if-keys-key.false)
 
 pub returns : goal.returns
 returns c =
-    let l = c.loop-looked in
-    sym (l.invariant.2 ∙ look_none _ _ _ _ _ (512 - l.looked) (omega arith))
+    let l = c.loop-before in
+    let m = home_lt c.args.member in
+    let all : l.before ≡ 512 = omega arith in
+    let around : (c.start-first.result + 512) % 512 ≡ c.start-first.result = omega arith in
+    sym (l.invariant ∙ rw all (look_none _ _ _ _ _ 0 refl ∙ rw around refl))

@@ -1,10 +1,5 @@
-use Prim.Native.Nat.{◌-◌}
 use Rattle.packing.proofs.Copying.{RoundsTurned}
 use Rattle.packing.proofs.copy_rounds.Given as goal
 
 abbrev pub invariant-loop-i : goal.invariant-loop-i
-invariant-loop-i l =
-    RoundsTurned l.values l.key_index l.next_value l.rounds l.ranks l.i l.x.0 l.owners l.scores
-
-abbrev pub decreases-loop-i : goal.decreases-loop-i
-decreases-loop-i l = l.held - l.i
+invariant-loop-i l = RoundsTurned l.map.values l.map.key_index l.map.next_value l.map.rounds.len l.ranks l.i l.x l.owners l.scores

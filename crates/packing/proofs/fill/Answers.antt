@@ -1,40 +1,20 @@
 -- `packing::fill` meets its contract, by the laws of proofs/Fills.antt. Assumes nothing.
-use native.Mathlib.Omega.{arith}
-use Rattle.multimap.specs.Arrays.{Arrays, arrays}
-use Rattle.packing.proofs.Fills.{filling_none, filling_more, filling_all}
+use Prim.Native.Nat.{ℕ, ◌+◌}
+use mathlib.Core.List.{[], ◌∷◌, ◌++◌}
+use mathlib.Core.Path.{◌≡◌, sym, subst}
+use lib.ListN.{length}
+use borrow.Author.Rules.{rules}
+use Rattle.std.proofs.lemmas.List.{length-append}
+use Rattle.std.proofs.lemmas.Slice.Zip.{zip_turn}
+use Rattle.packing.specs.Building.{Filled}
+use Rattle.packing.proofs.Fills.{fills_more}
 use Rattle.packing.proofs.fill.Goals as goal
 
-pub loop-j-init : goal.loop-j-init
-loop-j-init c =
-    let given : Arrays = arrays c.args.keys.now c.args.lengths.now c.args.next_key.now c.args.previous_key.now c.args.values.now
-    c.args.key_index.now c.args.next_value.now c.args.previous_value.now c.args.next_index.now
-    c.args.previous_index.now c.args.index.now c.args.members.now c.args.rounds.now c.args.taken.now in
-    filling_none c.args.owners.now c.args.scores.now c.args.held given c.requires
-
-pub overflow_add-j : goal.overflow_add-j
-overflow_add-j c = record { fits = omega (arith, c.requires.few, c.loop-j-test.true) }
-
-pub loop-j-smaller : goal.loop-j-smaller
-loop-j-smaller c = omega (arith, c.loop-j-test.true)
-
-pub loop-j-preserved : goal.loop-j-preserved
-loop-j-preserved c =
-    let given : Arrays = arrays c.args.keys.now c.args.lengths.now c.args.next_key.now c.args.previous_key.now c.args.values.now
-    c.args.key_index.now c.args.next_value.now c.args.previous_value.now c.args.next_index.now
-    c.args.previous_index.now c.args.index.now c.args.members.now c.args.rounds.now c.args.taken.now in
-    let turned : Arrays = arrays c.loop-j.keys c.loop-j.lengths c.loop-j.next_key c.loop-j.previous_key c.loop-j.values c.loop-j.key_index
-    c.loop-j.next_value c.loop-j.previous_value c.loop-j.next_index c.loop-j.previous_index c.loop-j.index
-    c.loop-j.members c.loop-j.rounds c.loop-j.taken in
-    filling_more c.args.owners.now c.args.scores.now c.args.held given c.requires c.loop-j.j turned c.loop-j.invariant
-    c.loop-j-test.true c.get.ensures c.get_wide-v.ensures c.add.ensures
-
-pub returns : goal.returns
-returns c =
-    let given : Arrays = arrays c.args.keys.now c.args.lengths.now c.args.next_key.now c.args.previous_key.now c.args.values.now
-    c.args.key_index.now c.args.next_value.now c.args.previous_value.now c.args.next_index.now
-    c.args.previous_index.now c.args.index.now c.args.members.now c.args.rounds.now c.args.taken.now in
-    let turned : Arrays = arrays c.loop-j.keys c.loop-j.lengths c.loop-j.next_key c.loop-j.previous_key c.loop-j.values c.loop-j.key_index
-    c.loop-j.next_value c.loop-j.previous_value c.loop-j.next_index c.loop-j.previous_index c.loop-j.index
-    c.loop-j.members c.loop-j.rounds c.loop-j.taken in
-    filling_all given c.args.owners.now c.args.scores.now c.args.held c.loop-j.j turned c.loop-j.invariant
-    c.loop-j-test.false
+pub loop-owner-preserved : goal.loop-owner-preserved
+loop-owner-preserved c =
+    let l = c.loop-owner in
+    let t = zip_turn c.args.owners.now c.args.scores.now l.yielded _ _ c.next.new.self _ (search rules) (search rules) l.yielded_by _ c.in-Some.is c.next.ensures.steps in
+    let e : length l.yielded + 1 ≡ length (l.yielded ++ (c.in-Some.owner, c.in-Some.v) ∷ []) = sym (length-append l.yielded _) in
+    subst (λ (j : ℕ). Filled c.args.map.now c.args.owners.now c.args.scores.now j c.add.new.map) e
+    (fills_more c.args.owners.now c.args.scores.now _ c.args.map.now c.requires.0 (length l.yielded) l.map l.invariant
+    t.0 (t.2 0) (t.3 0) c.add.ensures)

@@ -1,32 +1,14 @@
 -- `parsing::gap` meets its contract. Assumes nothing.
+use mathlib.Core.Path.{◌≡◌, ap, ◌∙◌}
 use native.Mathlib.Omega.{arith}
-use Rattle.parsing.proofs.Gaps.{gap_here, gap_past, gap_end}
+use lib.ListN.{length}
+use Rattle.std.specs.Prelude.{unwrap_or}
+use Rattle.parsing.specs.Split.{gap}
+use Rattle.parsing.proofs.Gaps.{before, gap_le}
 use Rattle.parsing.proofs.gap.Goals as goal
-
-pub loop-i-init : goal.loop-i-init
-loop-i-init c = (omega arith, omega arith)
-
-pub bounds-s-i : goal.bounds-s-i
-bounds-s-i c = omega arith
-
-pub returns-then-s-i : goal.returns-then-s-i
-returns-then-s-i c =
-    let a = c.args in
-    omega (arith, c.loop-i.invariant.1, gap_here a.b a.s.now c.loop-i.i c.loop-i-test.true c.if-s-i.true)
-
-pub overflow_add-i : goal.overflow_add-i
-overflow_add-i c = omega arith
-
-pub loop-i-smaller : goal.loop-i-smaller
-loop-i-smaller c = omega arith
-
-pub loop-i-preserved : goal.loop-i-preserved
-loop-i-preserved c =
-    let a = c.args in
-    let t = c.loop-i-test.true in
-    (omega (arith, t), omega (arith, c.loop-i.invariant.1, gap_past a.b a.s.now c.loop-i.i t c.if-s-i.false))
 
 pub returns : goal.returns
 returns c =
-    let a = c.args in
-    omega (arith, c.loop-i.invariant.1, gap_end a.b a.s.now c.loop-i.i c.loop-i-test.false)
+    let s = c.args.s.now in
+    let count : c.unwrap_or.result ≡ gap c.args.b s = c.unwrap_or.ensures ∙ ap (λ o. unwrap_or o (length s)) c.find.ensures ∙ before c.args.b s in
+    record { count = count; within = omega (arith, count, gap_le c.args.b s) }

@@ -1,20 +1,18 @@
 -- `popping::pop` meets its contract. Assumes nothing.
-use Rattle.multimap.specs.Arrays.{Arrays, arrays}
-use Rattle.multimap.proofs.Leaves.{told_none, told_pop}
+use Rattle.multimap.specs.Popping.{PairGone}
+use Rattle.multimap.proofs.Leaves.{pair_gone}
+use Rattle.multimap.proofs.Pops.{pop_none, pop_round, pop_popped}
 use Rattle.popping.proofs.pop.Goals as goal
 
-pub returns-then-held-eq0 : goal.returns-then-held-eq0
-returns-then-held-eq0 c =
-    let given : Arrays = arrays c.args.keys.now c.args.lengths.now c.args.next_key.now c.args.previous_key.now c.args.values.now
-    c.args.key_index.now c.args.next_value.now c.args.previous_value.now c.args.next_index.now
-    c.args.previous_index.now c.args.index.now c.args.members.now c.args.rounds.now c.args.taken.now in
-    λ b at_end. told_none b given c.requires c.if-held-eq0.true _ c.tell.ensures
+pub returns-then-map-eq0 : goal.returns-then-map-eq0
+returns-then-map-eq0 c =
+    λ b at_end. pop_none c.args.map.now c.requires b c.if-map-eq0.true
 
 pub returns : goal.returns
 returns c =
-    let given : Arrays = arrays c.args.keys.now c.args.lengths.now c.args.next_key.now c.args.previous_key.now c.args.values.now
-    c.args.key_index.now c.args.next_value.now c.args.previous_value.now c.args.next_index.now
-    c.args.previous_index.now c.args.index.now c.args.members.now c.args.rounds.now c.args.taken.now in
     λ b at_end.
-    told_pop b given c.requires c.if-held-eq0.false c.args.x.0 at_end c.owner-key.ensures c.member-member.ensures
-    c.round-round.ensures _ c.leave-gone.ensures _ c.tell-2.ensures
+    let inside = (pop_round c.args.map.now c.requires c.if-map-eq0.false c.args.x b at_end).inside in
+    let w : PairGone c.args.map.now c.args.x c.leave.result c.leave.new.map =
+    pair_gone c.args.map.now c.requires c.args.x inside c.leave.result c.leave.new.map c.leave.ensures in
+    pop_popped c.args.map.now c.requires c.if-map-eq0.false c.args.x b at_end _ c.leave.new.map
+    (record { answer = cc; state = w.state; linked = w.linked })

@@ -1,21 +1,20 @@
 -- `printing::print_members` meets its contract: a count is printed with what it counts. Assumes nothing.
-use mathlib.Core.Path.{sym, ap}
+use mathlib.Core.Path.{refl, ap}
 use mathlib.Core.List.{[]}
+use native.Mathlib.Omega.{arith}
+use Rattle.std.proofs.Common.{rules}
 use Rattle.steps.specs.Call.{lend}
-use Rattle.answers.specs.Answers.{answer_of}
-use Rattle.answers.specs.declared.Answer.{Answer}
-use Rattle.printing.specs.Reply.{text_of, kept, keyed}
-use Rattle.printing.proofs.Sayings.{said_as, prints, prints_none}
-use Rattle.printing.proofs.Texts.{uncounted}
+use Rattle.printing.specs.Text.{values}
+use Rattle.printing.specs.Reply.{text_of, keyed}
+use Rattle.printing.proofs.Puts.{wrote_join, wrote_as}
+use Rattle.printing.proofs.Sayings.{keys_long, counted, said, said_as, prints}
 use Rattle.printing.proofs.print_members.Goals as goal
 
-pub returns-then-out-lt-MAX_PRINTED : goal.returns-then-out-lt-MAX_PRINTED
-returns-then-out-lt-MAX_PRINTED c = prints_none _ _ c.if-out-lt-MAX_PRINTED.true
-
-pub returns-in_default : goal.returns-in_default
-returns-in_default c =
-    prints c.if-out-lt-MAX_PRINTED.false (said_as (c.print_answer.ensures.said c.if-out-lt-MAX_PRINTED.false) (uncounted c.args.answer (kept (lend [] [])) (keyed (lend c.args.members.now [])) c.in_default.not-Count))
-
-pub returns : goal.returns
-returns c =
-    prints c.if-out-lt-MAX_PRINTED.false (said_as c.print_keys.ensures (sym (ap (λ (a : Answer). text_of (keyed (lend c.args.members.now [])) (answer_of a)) c.in-Count.is)))
+pub returns-in-Ok-Count : goal.returns-in-Ok-Count
+returns-in-Ok-Count g c =
+    let ks = c.args.members.now in
+    let n = c.in-Ok-Count.n in
+    let same = counted (text_of (keyed (lend ks []))) n c.into_answered.ensures c.in-Ok-Count.is c.in-Ok-Count.field-0-is in
+    let w = wrote_join c.put.ensures (wrote_as c.put_values.ensures (ap values c.first.ensures)) in
+    let p = prints c.if-out-ge-MAX_PRINTED.true (said_as (said w refl (keys_long n ks (omega arith))) same) in
+    search rules

@@ -1,21 +1,25 @@
 -- `printing::print_old` meets its contract: a count is printed with what it counts. Assumes nothing.
-use mathlib.Core.Path.{sym, ap}
+use mathlib.Core.Path.{refl, ap}
 use mathlib.Core.List.{[]}
+use native.Mathlib.Omega.{arith}
+use Rattle.std.proofs.Common.{rules}
 use Rattle.steps.specs.Call.{lend}
-use Rattle.answers.specs.Answers.{answer_of}
-use Rattle.answers.specs.declared.Answer.{Answer}
-use Rattle.printing.specs.Reply.{text_of, kept, old}
-use Rattle.printing.proofs.Sayings.{said_as, prints, prints_none}
-use Rattle.printing.proofs.Texts.{uncounted}
+use Rattle.printing.specs.Text.{values}
+use Rattle.printing.specs.Reply.{text_of, old}
+use lib.ListN.{length, length-take}
+use Rattle.printing.proofs.Puts.{wrote_join, wrote_as, wrote_long}
+use Rattle.printing.proofs.Sayings.{old_at, old_long, counted, said, said_as, prints}
 use Rattle.printing.proofs.print_old.Goals as goal
 
-pub returns-then-out-lt-MAX_PRINTED : goal.returns-then-out-lt-MAX_PRINTED
-returns-then-out-lt-MAX_PRINTED c = prints_none _ _ c.if-out-lt-MAX_PRINTED.true
+pub put_values-requires : goal.put_values-requires
+put_values-requires g c =
+    omega (arith, c.if-out-ge-MAX_PRINTED.true, old_at _ c.put_count.ensures, wrote_long c.put_count.ensures, ap length c.first.ensures, length-take c.in-Ok-Count.n c.args.rounds.now)
 
-pub returns-in_default : goal.returns-in_default
-returns-in_default c =
-    prints c.if-out-lt-MAX_PRINTED.false (said_as (c.print_answer.ensures.said c.if-out-lt-MAX_PRINTED.false) (uncounted c.args.answer (kept (lend [] [])) (old (lend c.args.rounds.now [])) c.in_default.not-Count))
-
-pub returns : goal.returns
-returns c =
-    prints c.if-out-lt-MAX_PRINTED.false (said_as c.print_rounds.ensures (sym (ap (λ (a : Answer). text_of (old (lend c.args.rounds.now [])) (answer_of a)) c.in-Count.is)))
+pub returns-in-Ok-Count : goal.returns-in-Ok-Count
+returns-in-Ok-Count g c =
+    let vs = c.args.rounds.now in
+    let n = c.in-Ok-Count.n in
+    let same = counted (text_of (old (lend vs []))) n c.into_answered.ensures c.in-Ok-Count.is c.in-Ok-Count.field-0-is in
+    let w = wrote_join c.put_count.ensures (wrote_as c.put_values.ensures (ap values c.first.ensures)) in
+    let p = prints c.if-out-ge-MAX_PRINTED.true (said_as (said w refl (old_long n vs (omega arith))) same) in
+    search rules

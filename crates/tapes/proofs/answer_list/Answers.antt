@@ -1,41 +1,31 @@
 -- `tapes::answer_list` meets its contract. Assumes nothing.
-use mathlib.Core.Path.{◌≡◌, ap, ◌∙◌}
-use native.Mathlib.Omega.{arith}
-use lib.ListN.{length}
-use Rattle.tapes.specs.Parts.{rest_of}
-use Rattle.tapes.specs.Printed.{lists_after}
-use Rattle.tapes.proofs.Lists.{lists_less, no_list, one_list}
+use Prim.Native.Nat.{ℕ}
+use mathlib.Core.List.{List, ◌++◌}
+use mathlib.Core.Path.{sym, ap, ◌∙◌}
+use Rattle.tapes.specs.Parts.{left_after}
+use Rattle.tapes.specs.Printed.{parts_text}
+use Rattle.tapes.proofs.Holds.{kept_none, kept_join, kept_as}
+use Rattle.tapes.proofs.Lists.{no_list, none_left, one_list}
 use Rattle.tapes.proofs.answer_list.Goals as goal
 
-pub overflow_sub-eaten : goal.overflow_sub-eaten
-overflow_sub-eaten c =
-    let left_is : c.rest-left.result.now ≡ lists_after c.args.text.now = c.rest-left.ensures
-    ∙ ap rest_of
-    (c.rest-5.ensures
-    ∙ ap rest_of
-    (c.rest-4.ensures
-    ∙ ap rest_of
-    (c.rest-3.ensures ∙ ap rest_of (c.rest-2.ensures ∙ ap rest_of (c.rest.ensures ∙ ap rest_of c.rest-limits.ensures))))) in
-    omega (arith, ap length left_is, lists_less c.args.text.now)
+pub returns-then-name-text : goal.returns-then-name-text
+returns-then-name-text c =
+    let name = c.next_part-name.result.now in
+    let part = c.next_part-name.ensures in
+    let rest = c.print_parts.ensures in
+    record {
+      printed =
+          kept_as (kept_join c.put.ensures rest.printed)
+          (ap (λ (l : List ℕ). name ++ parts_text l) part.left ∙ one_list c.args.parts.now.left.now name part.part c.if-name-text.true);
+      left = rest.left ∙ ap left_after part.left;
+    }
 
-pub returns-then-text-name : goal.returns-then-text-name
-returns-then-text-name c =
-    let left_is : c.rest-left.result.now ≡ lists_after c.args.text.now = c.rest-left.ensures
-    ∙ ap rest_of
-    (c.rest-5.ensures
-    ∙ ap rest_of
-    (c.rest-4.ensures
-    ∙ ap rest_of
-    (c.rest-3.ensures ∙ ap rest_of (c.rest-2.ensures ∙ ap rest_of (c.rest.ensures ∙ ap rest_of c.rest-limits.ensures))))) in
-    no_list c.args.text.now c.args.out.now c.args.at c.requires c.part-name.ensures left_is c.if-text-name.true
-
-pub returns : goal.returns
-returns c =
-    let left_is : c.rest-left.result.now ≡ lists_after c.args.text.now = c.rest-left.ensures
-    ∙ ap rest_of
-    (c.rest-5.ensures
-    ∙ ap rest_of
-    (c.rest-4.ensures
-    ∙ ap rest_of
-    (c.rest-3.ensures ∙ ap rest_of (c.rest-2.ensures ∙ ap rest_of (c.rest.ensures ∙ ap rest_of c.rest-limits.ensures))))) in
-    one_list c.args.text.now c.args.out.now c.args.at c.part-name.ensures c.rest-limits.ensures left_is c.if-text-name.false c.hold-named.ensures c.print_parts-printed.ensures
+pub returns-else-name-text : goal.returns-else-name-text
+returns-else-name-text c =
+    let s = c.args.parts.now.left.now in
+    let name = c.next_part-name.result.now in
+    let part = c.next_part-name.ensures in
+    record {
+      printed = kept_as (kept_none _ c.requires) (sym (no_list s name part.part c.if-name-text.false));
+      left = part.left ∙ none_left s name part.part c.if-name-text.false;
+    }

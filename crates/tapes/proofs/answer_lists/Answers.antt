@@ -1,56 +1,34 @@
 -- `tapes::answer_lists` meets its contract. The loop's invariant: which lists are still to come. Assumes nothing.
-use Prim.Native.Nat.{ℕ, ◌+◌, ◌≤◌, ◌<◌}
-use mathlib.Core.List.{List}
+use Prim.Native.Nat.{◌<◌}
+use mathlib.Core.Path.{◌≡◌, refl, ap, ◌∙◌}
 use native.Mathlib.Omega.{arith}
-use lib.ListN.{length, drop}
-use Rattle.tapes.specs.Printed.{Answers}
-use Rattle.tapes.specs.declared.Answered.{Answered}
-use Rattle.tapes.proofs.Lists.{lists_all, part_on, list_some, lists_on, lists_done}
+use lib.ListN.{length}
+use Rattle.std.proofs.Common.{rules}
+use Rattle.tapes.proofs.Lists.{lists_all, lists_on, lists_fewer, lists_done}
 use Rattle.tapes.proofs.answer_lists.Goals as goal
 
-pub loop-at-init : goal.loop-at-init
-loop-at-init c = let a = c.args in lists_all a.text.now a.out.now
+pub loop-parts-init : goal.loop-parts-init
+loop-parts-init c = (refl, lists_all c.args.text.now c.args.out.now)
 
-pub slice_bounds-answer_list-count : goal.slice_bounds-answer_list-count
-slice_bounds-answer_list-count c = omega arith
+pub answer_list-requires : goal.answer_list-requires
+answer_list-requires c = c.loop-parts.invariant.1.coming.within
 
-pub slice_bounds-answer_list-start : goal.slice_bounds-answer_list-start
-slice_bounds-answer_list-start c = omega arith
+pub loop-parts-smaller : goal.loop-parts-smaller
+loop-parts-smaller c =
+    let left = c.loop-parts.parts.left.now in
+    let some : 0 < length left = grind (arith, c.loop-parts-test.ensures) in
+    omega (arith, lists_fewer left some, ap length c.answer_list.ensures.left)
 
-pub slice_bounds-answer_list-end : goal.slice_bounds-answer_list-end
-slice_bounds-answer_list-end c = omega arith
-
-pub answer_list-answered-requires : goal.answer_list-answered-requires
-answer_list-answered-requires c = c.loop-at.invariant.coming.within
-
-pub overflow_add-at : goal.overflow_add-at
-overflow_add-at c =
-    let s : List ℕ = c.args.text.now in
-    let next : List ℕ = c.answer_list-answered.new.out in
-    let done : Answered = c.answer_list-answered.result in
-    let answers : Answers (drop c.loop-at.at s) c.loop-at.out c.loop-at.place next done = part_on s c.loop-at.out next c.loop-at.at c.loop-at.place done c.answer_list-answered.ensures in
-    let some : (0 < done.eaten) × (c.loop-at.at + done.eaten ≤ length s) = list_some s c.loop-at.out c.loop-at.out next c.loop-at.at c.loop-at.place done c.loop-at-test.true answers in
-    omega (arith, some.1)
-
-pub loop-at-smaller : goal.loop-at-smaller
-loop-at-smaller c =
-    let s : List ℕ = c.args.text.now in
-    let next : List ℕ = c.answer_list-answered.new.out in
-    let done : Answered = c.answer_list-answered.result in
-    let answers : Answers (drop c.loop-at.at s) c.loop-at.out c.loop-at.place next done = part_on s c.loop-at.out next c.loop-at.at c.loop-at.place done c.answer_list-answered.ensures in
-    let some : (0 < done.eaten) × (c.loop-at.at + done.eaten ≤ length s) = list_some s c.loop-at.out c.loop-at.out next c.loop-at.at c.loop-at.place done c.loop-at-test.true answers in
-    omega (arith, some.0, some.1)
-
-pub loop-at-preserved : goal.loop-at-preserved
-loop-at-preserved c =
-    let s : List ℕ = c.args.text.now in
-    let next : List ℕ = c.answer_list-answered.new.out in
-    let done : Answered = c.answer_list-answered.result in
-    let answers : Answers (drop c.loop-at.at s) c.loop-at.out c.loop-at.place next done = part_on s c.loop-at.out next c.loop-at.at c.loop-at.place done c.answer_list-answered.ensures in
-    lists_on s c.args.out.now c.loop-at.out next c.loop-at.at c.loop-at.place done c.loop-at-test.true answers c.loop-at.invariant
-
-pub shape_of-out : goal.shape_of-out
-shape_of-out c = c.loop-at.invariant.coming.long
+pub loop-parts-preserved : goal.loop-parts-preserved
+loop-parts-preserved c =
+    let left = c.loop-parts.parts.left.now in
+    let some : 0 < length left = grind (arith, c.loop-parts-test.ensures) in
+    let k = c.answer_list.ensures in
+    (k.printed.same_slice ∙ c.loop-parts.invariant.0, rw (k.left) (lists_on left c.loop-parts.invariant.1 some k.printed.held))
 
 pub returns : goal.returns
-returns c = lists_done c.loop-at-test.false c.loop-at.invariant
+returns c =
+    let left = c.loop-parts.parts.left.now in
+    let none : length left ≡ 0 = grind (arith, c.loop-parts-test.ensures) in
+    let h = lists_done left c.loop-parts.invariant.1 none in
+    search rules

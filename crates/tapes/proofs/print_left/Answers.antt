@@ -1,14 +1,14 @@
 -- `tapes::print_left` meets its contract. Assumes nothing.
 use Rattle.tapes.specs.Printed.{left_text}
-use Rattle.tapes.proofs.Holds.{held_join}
+use Rattle.tapes.proofs.Holds.{kept_join}
 use Rattle.tapes.proofs.print_left.Goals as goal
 
 pub returns : goal.returns
 unfolding left_text
 returns c =
-    held_join c.hold-word.ensures
-    (held_join c.put_after-count.ensures
-    (held_join c.put_rows-first.ensures
-    (held_join c.hold-word2.ensures
-    (held_join c.put_rows-second.ensures
-    (held_join c.hold-word3.ensures (held_join c.put_rows-third.ensures c.hold.ensures))))))
+    kept_join c.put.ensures
+    (kept_join c.put_after.ensures
+    (kept_join c.put_rows.ensures
+    (kept_join c.put-2.ensures
+    (kept_join c.put_rows-2.ensures
+    (kept_join c.put-3.ensures (kept_join c.put_rows-3.ensures c.put-4.ensures))))))

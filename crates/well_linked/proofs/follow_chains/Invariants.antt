@@ -1,15 +1,11 @@
-use Prim.Native.Nat.{◌-◌, ◌≤◌}
+use Prim.Native.Nat.{◌-◌}
+use Rattle.links.specs.Places.{order}
 use Rattle.links.specs.Route.{walk}
-use Rattle.links.specs.Stores.{at}
-use Rattle.well_linked.specs.Chains.{trail}
+use Rattle.multimap.specs.Map.{at, rounds_of}
 use Rattle.well_linked.proofs.Chaining.{Chaining}
 use Rattle.well_linked.proofs.follow_chains.Given as goal
 
-abbrev pub invariant-loop-i : goal.invariant-loop-i
-invariant-loop-i l =
-    (l.i ≤ l.len) × (l.here ≤ 1024)
-    × Chaining (at l.key_index) (at l.next_index) (at l.previous_index) (trail l.next_value l.len) l.used l.tail l.many
-    (walk (at l.next_value) (at l.next_value l.here) (l.len - l.i))
-
-abbrev pub decreases-loop-i : goal.decreases-loop-i
-decreases-loop-i l = l.len - l.i
+abbrev pub invariant-loop : goal.invariant-loop
+invariant-loop l =
+    Chaining (at l.map.key_index) (at l.map.next_index) (at l.map.previous_index) (order (rounds_of l.map)) l.used l.chains
+    (walk (at l.map.next_value) (at l.map.next_value l.here) (l.map.rounds.len - l.counter))

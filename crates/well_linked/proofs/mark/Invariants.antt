@@ -1,12 +1,11 @@
-use Prim.Native.Nat.{◌-◌, ◌≤◌}
+use Prim.Native.Nat.{◌-◌}
 use Rattle.links.specs.Route.{walk}
-use Rattle.links.specs.Stores.{at}
+use Rattle.well_linked.specs.Marks.{place_at}
 use Rattle.well_linked.proofs.Marking.{Marking}
 use Rattle.well_linked.proofs.mark.Given as goal
 
-abbrev pub invariant-loop-i : goal.invariant-loop-i
-invariant-loop-i l =
-    (l.i ≤ l.many) × Marking l.fresh (walk (at l.next) l.from l.many) l.initial.met l.met (walk (at l.next) l.here (l.many - l.i))
-
-abbrev pub decreases-loop-i : goal.decreases-loop-i
-decreases-loop-i l = l.many - l.i
+abbrev pub invariant-loop : goal.invariant-loop
+invariant-loop g l =
+    let P = g.P.Place in
+    Marking l.fresh (walk (place_at P.number P.of l.next) (P.number l.fn.from) l.many) l.initial.met l.met
+    (walk (place_at P.number P.of l.next) (P.number l.here) (l.many - l.counter))

@@ -1,31 +1,28 @@
--- `tapes::parts::read_marks` meets its contract. The loop's invariant: which marks are still to come. Assumes nothing.
+-- `tapes::parts::read_marks` meets its contract. The loop's invariant: the marks so far are held. Assumes nothing.
+use mathlib.Core.Path.{sym, ◌∙◌}
 use native.Mathlib.Omega.{arith}
-use Rattle.tapes.proofs.Holds.{come_all}
-use Rattle.tapes.proofs.Numbers.{marks_on, marks_done}
+use lib.Seq.{take_all}
+use Rattle.tapes.specs.Parts.{marks_of}
+use Rattle.tapes.proofs.Holds.{held_none, held_join, held_as}
+use Rattle.tapes.proofs.Numbers.{mark_more, no_mark}
 use Rattle.tapes.proofs.parts.read_marks.Goals as goal
+use Rattle.tapes.proofs.parts.read_marks.Goals.{then-is_ascii_digit, else-is_ascii_digit}
 
-pub loop-i-init : goal.loop-i-init
-loop-i-init c = (omega arith, come_all _ _ _ (omega arith))
+pub loop-b-init : goal.loop-b-init
+unfolding marks_of
+loop-b-init c = held_none _ _ (omega arith)
 
-pub bounds-s-i : goal.bounds-s-i
-bounds-s-i c = omega arith
-
-pub keep_mark-count-requires : goal.keep_mark-count-requires
-keep_mark-count-requires c = c.loop-i.invariant.1.within
-
-pub overflow_add-i : goal.overflow_add-i
-overflow_add-i c = omega arith
-
-pub loop-i-smaller : goal.loop-i-smaller
-loop-i-smaller c = omega arith
-
-pub loop-i-preserved : goal.loop-i-preserved
-loop-i-preserved c =
-    let t = c.loop-i-test.true in
-    (omega (arith, t), marks_on c.args.s.now c.loop-i.i c.is_digit.result t c.is_digit.ensures c.loop-i.invariant.1 c.keep_mark-count.ensures)
-
-pub shape_of-marks : goal.shape_of-marks
-shape_of-marks c = c.loop-i.invariant.1.long
+pub loop-b-preserved : goal.loop-b-preserved
+loop-b-preserved c =
+    let s = c.args.s.now in
+    let i = c.loop-b.b-index in
+    let t = c.loop-b-test.true in
+    let inv = c.loop-b.invariant in
+    let is = sym c.is_ascii_digit.ensures.value in
+    elim c.if-is_ascii_digit.branch [
+      | then-is_ascii_digit w ↦ rw (w.marks-is, w.count-is) (held_as (held_join inv w.hold-count.ensures) (mark_more s i t (is ∙ w.if-is_ascii_digit.true)))
+      | else-is_ascii_digit w ↦ rw (w.marks-is, w.count-is) (held_as inv (no_mark s i t (is ∙ w.if-is_ascii_digit.false)))
+    ]
 
 pub returns : goal.returns
-returns c = marks_done c.args.s.now c.loop-i.i c.loop-i-test.false c.loop-i.invariant.1
+returns c = rw (take_all c.loop-b.b-index c.args.s.now c.loop-b-test.false) at c.loop-b.invariant

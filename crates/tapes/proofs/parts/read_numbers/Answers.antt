@@ -1,37 +1,34 @@
 -- `tapes::parts::read_numbers` meets its contract. The loop's invariant: which numbers are still to come. Assumes nothing.
-use mathlib.Core.Path.{◌∙◌}
+use mathlib.Core.Path.{sym, ap, ◌∙◌}
 use native.Mathlib.Omega.{arith}
+use Rattle.tapes.specs.Parts.{grown}
+use lib.ListN.{get_or}
 use Rattle.tapes.proofs.Holds.{come_all}
-use Rattle.tapes.proofs.Numbers.{numbers_on, numbers_done}
+use Rattle.tapes.proofs.Numbers.{as_list, on_digit, on_other, on_end}
 use Rattle.tapes.proofs.parts.read_numbers.Goals as goal
+use Rattle.tapes.proofs.parts.read_numbers.Goals.{then-is_ascii_digit, else-is_ascii_digit}
 
-pub loop-i-init : goal.loop-i-init
-loop-i-init c = (omega arith, come_all _ _ _ (omega arith))
+pub loop-b-init : goal.loop-b-init
+loop-b-init c = come_all _ _ _ (omega arith)
 
-pub bounds-s-i : goal.bounds-s-i
-bounds-s-i c = omega arith
-
-pub keep_number-count-requires : goal.keep_number-count-requires
-keep_number-count-requires c = c.loop-i.invariant.1.within
-
-pub overflow_add-i : goal.overflow_add-i
-overflow_add-i c = omega arith
-
-pub loop-i-smaller : goal.loop-i-smaller
-loop-i-smaller c = omega arith
-
-pub loop-i-preserved : goal.loop-i-preserved
-loop-i-preserved c =
+pub loop-b-preserved : goal.loop-b-preserved
+loop-b-preserved c =
     let s = c.args.s.now in
-    let t = c.loop-i-test.true in
-    (omega (arith, t), numbers_on s c.loop-i.i c.loop-i.begun c.is_digit-digit.result c.ends.result c.loop-i.n c.grow-n.result t c.is_digit-digit.ensures c.ends.ensures c.grow-n.ensures c.loop-i.invariant.1 c.keep_number-count.ensures)
-
-pub keep_number-requires : goal.keep_number-requires
-keep_number-requires c = c.loop-i.invariant.1.within
-
-pub shape_of-numbers : goal.shape_of-numbers
-shape_of-numbers c = c.keep_number.ensures.long ∙ c.loop-i.invariant.1.long
+    let i = c.loop-b.b-index in
+    let begun = c.loop-b.begun in
+    let inv = c.loop-b.invariant in
+    let is = sym c.is_ascii_digit.ensures.value in
+    elim c.if-is_ascii_digit.branch [
+      | then-is_ascii_digit w ↦
+          rw (w.numbers-is, w.count-is, w.begun-is)
+          (on_digit s i begun w.grow.result c.loop-b-test.true (is ∙ w.if-is_ascii_digit.true) (w.grow.ensures ∙ ap (λ k. grown k (get_or s i 0)) w.unwrap_or.ensures) inv)
+      | else-is_ascii_digit w ↦
+          rw (w.numbers-is, w.count-is, w.begun-is)
+          (on_other s i begun w.as_slice.result.now c.loop-b-test.true (is ∙ w.if-is_ascii_digit.false) (as_list begun w.as_slice.result.now w.as_slice.ensures) inv w.hold-count.ensures)
+    ]
 
 pub returns : goal.returns
 returns c =
-    numbers_done c.args.s.now c.loop-i.i c.loop-i.begun c.loop-i.n c.loop-i-test.false c.loop-i.invariant.1 c.keep_number.ensures
+    let begun = c.loop-b.begun in
+    let l = c.as_slice-2.result.now in
+    on_end c.args.s.now c.loop-b.b-index begun l c.loop-b-test.false (as_list begun l c.as_slice-2.ensures) c.loop-b.invariant c.hold.ensures

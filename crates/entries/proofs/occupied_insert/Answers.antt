@@ -1,0 +1,17 @@
+-- `entries::occupied_insert` meets its contract. Assumes nothing.
+use mathlib.Core.Path.{refl}
+use Rattle.answers.specs.Answers.{round_of}
+use Rattle.steps.specs.Call.{occupied_insert}
+use Rattle.inserting.proofs.Strange.{strange}
+use Rattle.entries.proofs.Calls.{no_insert, inserted}
+use Rattle.entries.proofs.occupied_insert.Goals as goal
+
+pub returns-in_err-check_poster : goal.returns-in_err-check_poster
+returns-in_err-check_poster c =
+    strange (occupied_insert c.args.poster c.args.k c.args.v) c.args.map.now round_of _ _ refl c.requires c.in_err-check_poster.ensures c.from_residual.ensures.1
+
+pub returns-in_default : goal.returns-in_default
+returns-in_default c = no_insert c.args.map.now c.requires c.args.k c.in_default.ensures.reads c.args.poster c.args.v c.in_ok-check_poster.ensures
+
+pub returns : goal.returns
+returns c = inserted c.args.map.now c.requires c.args.k c.in-Occupied.ensures.reads c.args.poster c.args.v c.in_ok-check_poster.ensures _ _ c.insert.ensures

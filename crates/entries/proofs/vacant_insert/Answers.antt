@@ -1,0 +1,23 @@
+-- `entries::vacant_insert` meets its contract. Assumes nothing.
+use mathlib.Core.Path.{refl}
+use Rattle.std.proofs.lemmas.Result.{err_from_is_err_and}
+use Rattle.answers.specs.Answers.{done_of}
+use Rattle.steps.specs.Call.{vacant_insert}
+use Rattle.inserting.proofs.Strange.{strange}
+use Rattle.entries.proofs.Calls.{not_new, let_in}
+use Rattle.entries.proofs.vacant_insert.Goals as goal
+
+pub returns-in_err-check_poster : goal.returns-in_err-check_poster
+returns-in_err-check_poster c =
+    strange (vacant_insert c.args.poster c.args.k c.args.v) c.args.map.now done_of _ _ refl c.requires c.in_err-check_poster.ensures c.from_residual.ensures.1
+
+pub returns-in_default : goal.returns-in_default
+returns-in_default c = not_new c.args.map.now c.requires c.args.k c.in_default.ensures.reads c.args.poster c.args.v c.in_ok-check_poster.ensures
+
+pub returns-in_err-append : goal.returns-in_err-append
+returns-in_err-append c =
+    let p = err_from_is_err_and c.from_residual-in_err-append.result c.from_residual-in_err-append.ensures.1 in
+    rw (p.1, p.2) (let_in c.args.map.now c.requires c.args.k c.in-Vacant.ensures.reads c.args.poster c.args.v c.in_ok-check_poster.ensures _ _ c.in_err-append.ensures)
+
+pub returns : goal.returns
+returns c = let_in c.args.map.now c.requires c.args.k c.in-Vacant.ensures.reads c.args.poster c.args.v c.in_ok-check_poster.ensures _ _ c.in_ok-append.ensures

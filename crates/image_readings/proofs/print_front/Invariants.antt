@@ -1,9 +1,0 @@
--- `image_readings::print_front` is safe and ends.
-use Rattle.std.proofs.Common.{length, ◌-◌, ◌≤◌}
-use Rattle.image_readings.proofs.print_front.Given as goal
-
-abbrev pub invariant-loop-i : goal.invariant-loop-i
-invariant-loop-i g l = l.i ≤ length l.numbers
-
-abbrev pub decreases-loop-i : goal.decreases-loop-i
-decreases-loop-i g l = length l.numbers - l.i

@@ -1,6 +1,0 @@
--- `index::empty` meets its contract. Assumes nothing.
-use mathlib.Core.Path.{refl}
-use Rattle.index.proofs.empty.Goals as goal
-
-pub returns : goal.returns
-returns c = refl

@@ -1,5 +1,0 @@
--- `links::link` meets its contract. Assumes nothing.
-use Rattle.links.proofs.link.Goals as goal
-
-pub returns : goal.returns
-returns c = record { next_is = cc; previous_is = cc }

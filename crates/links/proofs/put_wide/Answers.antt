@@ -1,8 +1,0 @@
--- `links::put_wide` meets its contract. Assumes nothing.
-use mathlib.Core.Path.{sym}
-use lib.Seq.{set_out}
-use borrow.Author.Rules.{rules}
-use Rattle.links.proofs.put_wide.Goals as goal
-
-pub returns-else-p-a : goal.returns-else-p-a
-returns-else-p-a c = sym (set_out _ _ _ (search rules))

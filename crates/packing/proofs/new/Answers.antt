@@ -1,0 +1,10 @@
+-- `packing::new` meets its contract. Assumes nothing.
+use mathlib.Core.Path.{sym, ◌∙◌}
+use Rattle.packing.proofs.Clears.{makes_none, makes_new}
+use Rattle.packing.proofs.new.Goals as goal
+
+pub returns-then-too_high : goal.returns-then-too_high
+returns-then-too_high c = makes_none _ c.reset.ensures (sym c.too_high.ensures ∙ c.if-too_high.true)
+
+pub returns : goal.returns
+returns c = makes_new _ c.reset-2.ensures (sym c.too_high.ensures ∙ c.if-too_high.false)

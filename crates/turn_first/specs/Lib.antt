@@ -1,2 +1,0 @@
--- What the contracts of the calls by number cite.
-pub mod Turned

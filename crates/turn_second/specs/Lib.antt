@@ -1,1 +1,0 @@
--- The contract of `turn_second` cites turn_first/specs/Turned.antt.
