@@ -1,9 +1,9 @@
 /* The proved map from C: the functions of libprelgammo.a, which bindings/library.sh makes.
  *
  * A map is an om_map wherever its owner keeps it, and a call changes it there; nothing is copied and nothing allocated.
- * om_map_new and om_map_read_image take any om_map. Every other function asks that the map is well-linked: that one of
- * these two made it and only calls of this header have changed it since, or that om_map_well_linked says 1 of it. A copy
- * of a well-linked map is one too. Threads may read one map together; a call that may change it has it alone.
+ * om_map_new and om_map_read_image take any om_map. Every other function is for a well-linked map: one that these two
+ * made and only calls of this header have changed since, or of which om_map_well_linked says 1. A copy of a well-linked
+ * map is one too. Threads may read one map together; a call that may change it has it alone.
  *
  * A map has two limits of its own, of members and of rounds, with which it was made or read and which every call keeps. It
  * is full where it holds as many: refusals 1, 2, 6 and 12 speak of its limits. A limit may be 0.

@@ -5,10 +5,10 @@ use crate::answer::Answer;
 pub use crate::declarations::Record;
 use crate::{declarations, Refused, POSTERS};
 
-// The library's functions are lent the map's record, and change it where it stands. Every function but
-// om_new, om_well_linked and om_read_image asks that the map is well-linked.
+// The library's functions are lent the map's record, and change it where it stands. What every function
+// but om_new, om_well_linked and om_read_image promises, it promises of a well-linked map.
 
-// The answer of a function that may change the map. The premise holds, since a Map is well-linked. The record is lent
+// The answer of a function that may change the map. A Map is well-linked, so that the promise holds. The record is lent
 // for the call, as is each slice, and they overlap nowhere.
 macro_rules! change {
     ($map:ident, $function:ident($($argument:expr),*)) => {{

@@ -5,8 +5,7 @@
 ghost use Rattle.answers.specs.Answers.{answered};
 ghost use Rattle.steps.specs.Call as C;
 ghost use Rattle.steps.specs.Step.{say};
-ghost use Rattle.steps.specs.Trace.{Does};
-ghost use Rattle.multimap.specs.WellLinked.{WellLinked, linked};
+ghost use Rattle.multimap.specs.WellLinked.{Calls};
 ghost use Rattle.adding.specs.Admitted.{Admitted, Posting};
 
 use answers::Refusal;
@@ -15,8 +14,7 @@ use multimap::ListOrderedMultimap;
 
 // Adds the round v of the member k at the back, for the poster; a new member joins at the back. The answer is whether k was present.
 pub fn append(map: &mut ListOrderedMultimap, poster: u64, k: u64, v: u64) -> Result<bool, Refusal>
-    requires { WellLinked map.old }
-    ensures { Does linked (C.append poster k v) map.old (say (answered C.present result)) map.new }
+    ensures { Calls (C.append poster k v) map.old (say (answered C.present result)) map.new }
 {
     check_poster(poster)?;
     match index::find(&map.index, &map.keys, k) {

@@ -6,8 +6,7 @@
 ghost use Rattle.answers.specs.Answers.{answered, done_of, round_of};
 ghost use Rattle.steps.specs.Call as C;
 ghost use Rattle.steps.specs.Step.{say};
-ghost use Rattle.steps.specs.Trace.{Does};
-ghost use Rattle.multimap.specs.WellLinked.{WellLinked, linked};
+ghost use Rattle.multimap.specs.WellLinked.{Calls};
 
 use answers::{Entry, Refusal};
 use multimap::ListOrderedMultimap;
@@ -19,8 +18,7 @@ pub fn occupied_append(
     k: u64,
     v: u64,
 ) -> Result<(), Refusal>
-    requires { WellLinked map.old }
-    ensures { Does linked (C.occupied_append poster k v) map.old (say (answered done_of result)) map.new }
+    ensures { Calls (C.occupied_append poster k v) map.old (say (answered done_of result)) map.new }
 {
     adding::check_poster(poster)?;
     let Entry::Occupied(_) = reading::entry(map, k) else {
@@ -37,8 +35,7 @@ pub fn occupied_insert(
     k: u64,
     v: u64,
 ) -> Result<Option<u64>, Refusal>
-    requires { WellLinked map.old }
-    ensures { Does linked (C.occupied_insert poster k v) map.old (say (answered round_of result)) map.new }
+    ensures { Calls (C.occupied_insert poster k v) map.old (say (answered round_of result)) map.new }
 {
     adding::check_poster(poster)?;
     let Entry::Occupied(_) = reading::entry(map, k) else {
@@ -49,8 +46,7 @@ pub fn occupied_insert(
 
 // Takes the member k out with its record. The answer is the record's first round.
 pub fn occupied_remove_entry(map: &mut ListOrderedMultimap, k: u64) -> Result<Option<u64>, Refusal>
-    requires { WellLinked map.old }
-    ensures { Does linked (C.occupied_remove_entry k) map.old (say (answered round_of result)) map.new }
+    ensures { Calls (C.occupied_remove_entry k) map.old (say (answered round_of result)) map.new }
 {
     let Entry::Occupied(_) = reading::entry(map, k) else {
         return Err(Refusal::Absent);
@@ -65,8 +61,7 @@ pub fn vacant_insert(
     k: u64,
     v: u64,
 ) -> Result<(), Refusal>
-    requires { WellLinked map.old }
-    ensures { Does linked (C.vacant_insert poster k v) map.old (say (answered done_of result)) map.new }
+    ensures { Calls (C.vacant_insert poster k v) map.old (say (answered done_of result)) map.new }
 {
     adding::check_poster(poster)?;
     let Entry::Vacant(_) = reading::entry(map, k) else {

@@ -6,8 +6,7 @@ ghost use Rattle.std.specs.Prelude.{◌≡◌};
 ghost use Rattle.answers.specs.Answers.{answered, round_of};
 ghost use Rattle.steps.specs.Call as C;
 ghost use Rattle.steps.specs.Step.{say};
-ghost use Rattle.steps.specs.Trace.{Does};
-ghost use Rattle.multimap.specs.WellLinked.{WellLinked, linked};
+ghost use Rattle.multimap.specs.WellLinked.{Calls};
 ghost use Rattle.inserting.specs.Records.{without_record, with_only};
 
 use answers::Refusal;
@@ -21,8 +20,7 @@ pub fn insert(
     k: u64,
     v: u64,
 ) -> Result<Option<u64>, Refusal>
-    requires { WellLinked map.old }
-    ensures { Does linked (C.insert poster k v) map.old (say (answered round_of result)) map.new }
+    ensures { Calls (C.insert poster k v) map.old (say (answered round_of result)) map.new }
 {
     adding::check_poster(poster)?;
     match index::find(&map.index, &map.keys, k) {

@@ -6,8 +6,7 @@
 ghost use Rattle.answers.specs.Answers.{answered};
 ghost use Rattle.steps.specs.Call as C;
 ghost use Rattle.steps.specs.Step.{write};
-ghost use Rattle.steps.specs.Trace.{Does};
-ghost use Rattle.multimap.specs.WellLinked.{WellLinked, linked};
+ghost use Rattle.multimap.specs.WellLinked.{Calls};
 
 use answers::Refusal;
 use index::Found;
@@ -22,8 +21,7 @@ pub fn insert_all(
     v: u64,
     out: &mut [u64],
 ) -> Result<usize, Refusal>
-    requires { WellLinked map.old }
-    ensures { Does linked (C.insert_all poster k v out.old) map.old (write (answered C.count result) out.new) map.new }
+    ensures { Calls (C.insert_all poster k v out.old) map.old (write (answered C.count result) out.new) map.new }
 {
     adding::check_poster(poster)?;
     match index::find(&map.index, &map.keys, k) {

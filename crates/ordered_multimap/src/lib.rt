@@ -12,7 +12,7 @@ ghost use Rattle.steps.specs.Call as C;
 ghost use Rattle.steps.specs.Step.{say, write};
 ghost use Rattle.steps.specs.Trace.{Does};
 ghost use Rattle.multimap.specs.Making.{Makes};
-ghost use Rattle.multimap.specs.WellLinked.{WellLinked, linked};
+ghost use Rattle.multimap.specs.WellLinked.{Calls, WellLinked, linked};
 ghost use Rattle.answers.specs.Answers.{answer_of, answered, done_of, entry_of, popped_of, round_of};
 ghost use Rattle.turn.specs.Turned.{Called};
 
@@ -45,8 +45,7 @@ pub fn new(members: u64, rounds: u64) -> Reply<Result<(), Refusal>>
 
 // Adds a round v of the member k at the back, and says whether k was there.
 pub fn append(m: ListOrderedMultimap, poster: u64, k: u64, v: u64) -> Reply<Result<bool, Refusal>>
-    requires { WellLinked m }
-    ensures { Does linked (C.append poster k v) m (say (answered C.present result.answer)) result.map }
+    ensures { Calls (C.append poster k v) m (say (answered C.present result.answer)) result.map }
 {
     let mut map = m;
     let answer = adding::append(&mut map, poster, k, v);
@@ -60,8 +59,7 @@ pub fn insert(
     k: u64,
     v: u64,
 ) -> Reply<Result<Option<u64>, Refusal>>
-    requires { WellLinked m }
-    ensures { Does linked (C.insert poster k v) m (say (answered round_of result.answer)) result.map }
+    ensures { Calls (C.insert poster k v) m (say (answered round_of result.answer)) result.map }
 {
     let mut map = m;
     let answer = inserting::insert(&mut map, poster, k, v);
@@ -76,8 +74,7 @@ pub fn insert_all(
     v: u64,
     out: &mut [u64],
 ) -> Reply<Result<usize, Refusal>>
-    requires { WellLinked m }
-    ensures { Does linked (C.insert_all poster k v out.old) m (write (answered C.count result.answer) out.new) result.map }
+    ensures { Calls (C.insert_all poster k v out.old) m (write (answered C.count result.answer) out.new) result.map }
 {
     let mut map = m;
     let answer = inserting_all::insert_all(&mut map, poster, k, v, out);
@@ -86,8 +83,7 @@ pub fn insert_all(
 
 // Makes the member leave with its record, whose first round is the answer.
 pub fn remove(m: ListOrderedMultimap, k: u64) -> Reply<Option<u64>>
-    requires { WellLinked m }
-    ensures { Does linked (C.remove k) m (say (round_of result.answer)) result.map }
+    ensures { Calls (C.remove k) m (say (round_of result.answer)) result.map }
 {
     let mut map = m;
     let answer = removing::remove(&mut map, k);
@@ -96,8 +92,7 @@ pub fn remove(m: ListOrderedMultimap, k: u64) -> Reply<Option<u64>>
 
 // Makes the member leave with its record, which is written to the front of `out`.
 pub fn remove_all(m: ListOrderedMultimap, k: u64, out: &mut [u64]) -> Reply<Result<usize, Refusal>>
-    requires { WellLinked m }
-    ensures { Does linked (C.remove_all k out.old) m (write (answered C.count result.answer) out.new) result.map }
+    ensures { Calls (C.remove_all k out.old) m (write (answered C.count result.answer) out.new) result.map }
 {
     let mut map = m;
     let answer = removing::remove_all(&mut map, k, out);
@@ -106,16 +101,14 @@ pub fn remove_all(m: ListOrderedMultimap, k: u64, out: &mut [u64]) -> Reply<Resu
 
 // Says whether the member is there, for the calls of occupied_entry and vacant_entry.
 pub fn entry(m: ListOrderedMultimap, k: u64) -> Reply<Entry>
-    requires { WellLinked m }
-    ensures { Does linked (C.entry k) m (say (entry_of result.answer)) result.map }
+    ensures { Calls (C.entry k) m (say (entry_of result.answer)) result.map }
 {
     let answer = reading::entry(&m, k);
     Reply { map: m, answer }
 }
 
 pub fn pop_front(m: ListOrderedMultimap) -> Reply<Option<Popped>>
-    requires { WellLinked m }
-    ensures { Does linked C.pop_front m (say (popped_of result.answer)) result.map }
+    ensures { Calls C.pop_front m (say (popped_of result.answer)) result.map }
 {
     let mut map = m;
     let answer = popping::pop_front(&mut map);
@@ -123,8 +116,7 @@ pub fn pop_front(m: ListOrderedMultimap) -> Reply<Option<Popped>>
 }
 
 pub fn pop_back(m: ListOrderedMultimap) -> Reply<Option<Popped>>
-    requires { WellLinked m }
-    ensures { Does linked C.pop_back m (say (popped_of result.answer)) result.map }
+    ensures { Calls C.pop_back m (say (popped_of result.answer)) result.map }
 {
     let mut map = m;
     let answer = popping_back::pop_back(&mut map);
@@ -133,8 +125,7 @@ pub fn pop_back(m: ListOrderedMultimap) -> Reply<Option<Popped>>
 
 // Keeps the pairs with mark 1 and drops those with mark 0.
 pub fn retain(m: ListOrderedMultimap, marks: &[u8]) -> Reply<Result<usize, Refusal>>
-    requires { WellLinked m }
-    ensures { Does linked (C.retain marks.now) m (say (answered C.count result.answer)) result.map }
+    ensures { Calls (C.retain marks.now) m (say (answered C.count result.answer)) result.map }
 {
     let mut map = m;
     let answer = retaining::retain(&mut map, marks);
@@ -152,8 +143,7 @@ pub fn pack_to(m: ListOrderedMultimap, members: u64, rounds: u64) -> Reply<Resul
 }
 
 pub fn clear(m: ListOrderedMultimap) -> Reply<()>
-    requires { WellLinked m }
-    ensures { Does linked C.clear m (say C.done) result.map }
+    ensures { Calls C.clear m (say C.done) result.map }
 {
     let mut map = m;
     packing::clear(&mut map);
@@ -162,8 +152,7 @@ pub fn clear(m: ListOrderedMultimap) -> Reply<()>
 
 // Reads the member's first round.
 pub fn get(m: ListOrderedMultimap, k: u64) -> Reply<Option<u64>>
-    requires { WellLinked m }
-    ensures { Does linked (C.get k) m (say (round_of result.answer)) result.map }
+    ensures { Calls (C.get k) m (say (round_of result.answer)) result.map }
 {
     let answer = reading::get(&m, k);
     Reply { map: m, answer }
@@ -171,24 +160,21 @@ pub fn get(m: ListOrderedMultimap, k: u64) -> Reply<Option<u64>>
 
 // Writes the member's rounds, in order, to the front of `out`.
 pub fn get_all(m: ListOrderedMultimap, k: u64, out: &mut [u64]) -> Reply<Result<usize, Refusal>>
-    requires { WellLinked m }
-    ensures { Does linked (C.get_all k out.old) m (write (answered C.count result.answer) out.new) result.map }
+    ensures { Calls (C.get_all k out.old) m (write (answered C.count result.answer) out.new) result.map }
 {
     let answer = reading::get_all(&m, k, out);
     Reply { map: m, answer }
 }
 
 pub fn entry_len(m: ListOrderedMultimap, k: u64) -> Reply<usize>
-    requires { WellLinked m }
-    ensures { Does linked (C.entry_len k) m (say (C.count result.answer)) result.map }
+    ensures { Calls (C.entry_len k) m (say (C.count result.answer)) result.map }
 {
     let answer = reading::entry_len(&m, k);
     Reply { map: m, answer }
 }
 
 pub fn contains_key(m: ListOrderedMultimap, k: u64) -> Reply<bool>
-    requires { WellLinked m }
-    ensures { Does linked (C.contains_key k) m (say (C.present result.answer)) result.map }
+    ensures { Calls (C.contains_key k) m (say (C.present result.answer)) result.map }
 {
     let answer = reading::contains_key(&m, k);
     Reply { map: m, answer }
@@ -196,24 +182,21 @@ pub fn contains_key(m: ListOrderedMultimap, k: u64) -> Reply<bool>
 
 // Writes the members, in joining order, to the front of `out`.
 pub fn keys(m: ListOrderedMultimap, out: &mut [u64]) -> Reply<Result<usize, Refusal>>
-    requires { WellLinked m }
-    ensures { Does linked (C.keys out.old) m (write (answered C.count result.answer) out.new) result.map }
+    ensures { Calls (C.keys out.old) m (write (answered C.count result.answer) out.new) result.map }
 {
     let answer = reading::keys(&m, out);
     Reply { map: m, answer }
 }
 
 pub fn keys_len(m: ListOrderedMultimap) -> Reply<usize>
-    requires { WellLinked m }
-    ensures { Does linked C.keys_len m (say (C.count result.answer)) result.map }
+    ensures { Calls C.keys_len m (say (C.count result.answer)) result.map }
 {
     let answer = reading::keys_len(&m);
     Reply { map: m, answer }
 }
 
 pub fn values_len(m: ListOrderedMultimap) -> Reply<usize>
-    requires { WellLinked m }
-    ensures { Does linked C.values_len m (say (C.count result.answer)) result.map }
+    ensures { Calls C.values_len m (say (C.count result.answer)) result.map }
 {
     let answer = reading::values_len(&m);
     Reply { map: m, answer }
@@ -225,8 +208,7 @@ pub fn iter(
     members: &mut [u64],
     rounds: &mut [u64],
 ) -> Reply<Result<usize, Refusal>>
-    requires { WellLinked m }
-    ensures { Does linked (C.iter members.old rounds.old) m (record { answer = answered C.count result.answer; slices = lend members.new rounds.new }) result.map }
+    ensures { Calls (C.iter members.old rounds.old) m (record { answer = answered C.count result.answer; slices = lend members.new rounds.new }) result.map }
 {
     let answer = reading::iter(&m, members, rounds);
     Reply { map: m, answer }
@@ -234,8 +216,7 @@ pub fn iter(
 
 // Writes how many rounds were ever taken in, of each of the sixteen posters.
 pub fn taken(m: ListOrderedMultimap, out: &mut [u64; 16]) -> Reply<usize>
-    requires { WellLinked m }
-    ensures { Does linked (C.taken out.old) m (write (C.count result.answer) out.new) result.map }
+    ensures { Calls (C.taken out.old) m (write (C.count result.answer) out.new) result.map }
 {
     let answer = reading::taken(&m, out);
     Reply { map: m, answer }

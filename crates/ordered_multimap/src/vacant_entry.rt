@@ -1,16 +1,14 @@
 // The call of the Rust crate's `VacantEntry`. It is refused where the member is there.
 ghost use Rattle.steps.specs.Call as C;
 ghost use Rattle.steps.specs.Step.{say};
-ghost use Rattle.steps.specs.Trace.{Does};
-ghost use Rattle.multimap.specs.WellLinked.{WellLinked, linked};
+ghost use Rattle.multimap.specs.WellLinked.{Calls};
 ghost use Rattle.answers.specs.Answers.{answered, done_of};
 
 use super::{ListOrderedMultimap, Reply};
 use answers::Refusal;
 
 pub fn insert(m: ListOrderedMultimap, poster: u64, k: u64, v: u64) -> Reply<Result<(), Refusal>>
-    requires { WellLinked m }
-    ensures { Does linked (C.vacant_insert poster k v) m (say (answered done_of result.answer)) result.map }
+    ensures { Calls (C.vacant_insert poster k v) m (say (answered done_of result.answer)) result.map }
 {
     let mut map = m;
     let answer = entries::vacant_insert(&mut map, poster, k, v);

@@ -11,7 +11,7 @@ ghost use Rattle.steps.specs.Step.{say};
 ghost use Rattle.steps.specs.Trace.{Does};
 ghost use Rattle.multimap.specs.Making.{Makes};
 ghost use Rattle.multimap.specs.Map.{limits_of};
-ghost use Rattle.multimap.specs.WellLinked.{WellLinked, linked};
+ghost use Rattle.multimap.specs.WellLinked.{Calls, WellLinked, linked};
 ghost use Rattle.packing.specs.Building.{listed, Distinct, MembersCopied, RoundsCopied, Seated, Apart, Fillable, Filled, Repacked};
 ghost use Rattle.packing.specs.Cleared.{cleared, unused, zeros};
 
@@ -38,8 +38,7 @@ pub fn new(
 
 // Empties the map, which stays as it is where it holds no round: then it has no member either. T stays.
 pub fn clear(map: &mut ListOrderedMultimap)
-    requires { WellLinked map.old }
-    ensures { Does linked C.clear map.old (say C.done) map.new }
+    ensures { Calls C.clear map.old (say C.done) map.new }
 {
     if map.rounds.len == 0 {
         return;

@@ -7,10 +7,9 @@ ghost use Rattle.std.specs.Prelude.{◌≡◌, Bool, cond};
 ghost use Rattle.answers.specs.Answers.{popped_of};
 ghost use Rattle.steps.specs.Call as C;
 ghost use Rattle.steps.specs.Step.{say};
-ghost use Rattle.steps.specs.Trace.{Does};
 ghost use Rattle.links.specs.Stores.{at};
 ghost use Rattle.multimap.specs.Popping.{pop_of};
-ghost use Rattle.multimap.specs.WellLinked.{WellLinked, linked};
+ghost use Rattle.multimap.specs.WellLinked.{Calls};
 
 use answers::Popped;
 use links::Place;
@@ -18,8 +17,7 @@ use multimap::{ListOrderedMultimap, ROUNDS, ValuePlace};
 
 // Takes the first round out.
 pub fn pop_front(map: &mut ListOrderedMultimap) -> Option<Popped>
-    requires { WellLinked map.old }
-    ensures { Does linked C.pop_front map.old (say (popped_of result)) map.new }
+    ensures { Calls C.pop_front map.old (say (popped_of result)) map.new }
 {
     let first = links::after(&map.next_value, ValuePlace::new(ROUNDS));
     pop(map, first)
@@ -27,8 +25,7 @@ pub fn pop_front(map: &mut ListOrderedMultimap) -> Option<Popped>
 
 // Takes the round in the place x out, which is the first or the last, where there is one.
 pub fn pop(map: &mut ListOrderedMultimap, x: ValuePlace) -> Option<Popped>
-    requires { WellLinked map.old }
-    ensures { (b : Bool) → x ≡ cond b (at map.old.next_value 1024) (at map.old.previous_value 1024) → Does linked (pop_of b) map.old (say (popped_of result)) map.new }
+    ensures { (b : Bool) → x ≡ cond b (at map.old.next_value 1024) (at map.old.previous_value 1024) → Calls (pop_of b) map.old (say (popped_of result)) map.new }
 {
     if map.rounds.len == 0 {
         return None;

@@ -5,8 +5,7 @@
 ghost use Rattle.answers.specs.Answers.{popped_of};
 ghost use Rattle.steps.specs.Call as C;
 ghost use Rattle.steps.specs.Step.{say};
-ghost use Rattle.steps.specs.Trace.{Does};
-ghost use Rattle.multimap.specs.WellLinked.{WellLinked, linked};
+ghost use Rattle.multimap.specs.WellLinked.{Calls};
 
 use answers::Popped;
 use links::Place;
@@ -14,8 +13,7 @@ use multimap::{ListOrderedMultimap, ROUNDS, ValuePlace};
 
 // Takes the last round out.
 pub fn pop_back(map: &mut ListOrderedMultimap) -> Option<Popped>
-    requires { WellLinked map.old }
-    ensures { Does linked C.pop_back map.old (say (popped_of result)) map.new }
+    ensures { Calls C.pop_back map.old (say (popped_of result)) map.new }
 {
     let last = links::after(&map.previous_value, ValuePlace::new(ROUNDS));
     popping::pop(map, last)

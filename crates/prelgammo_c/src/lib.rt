@@ -8,7 +8,7 @@ ghost use Rattle.steps.specs.State.{limit};
 ghost use Rattle.steps.specs.Call as C;
 ghost use Rattle.steps.specs.Told.{Told};
 ghost use Rattle.multimap.specs.Making.{Made};
-ghost use Rattle.multimap.specs.WellLinked.{WellLinked, linked};
+ghost use Rattle.multimap.specs.WellLinked.{CallsTold, WellLinked, linked};
 ghost use Rattle.turn.specs.Turned.{Turned};
 ghost use Rattle.replay.specs.Played.{Played};
 ghost use Rattle.image.specs.Answers.{Writes, Restores};
@@ -33,8 +33,7 @@ pub extern "C" fn om_new(
 // Empties the map, which stays as it is where it holds no round: then it has no member either. T stays.
 #[unsafe(no_mangle)]
 pub extern "C" fn om_clear(map: &mut ListOrderedMultimap, answer: &mut [u64; 4])
-    requires { WellLinked map.old }
-    ensures { Told linked C.clear map.old map.new [] [] answer.new }
+    ensures { CallsTold C.clear map.old map.new [] [] answer.new }
 {
     packing::clear(map);
     answers::tell(answer, Ok(()));
@@ -63,8 +62,7 @@ pub extern "C" fn om_append(
     v: u64,
     answer: &mut [u64; 4],
 )
-    requires { WellLinked map.old }
-    ensures { Told linked (C.append poster k v) map.old map.new [] [] answer.new }
+    ensures { CallsTold (C.append poster k v) map.old map.new [] [] answer.new }
 {
     answers::tell(answer, adding::append(map, poster, k, v));
 }
@@ -78,8 +76,7 @@ pub extern "C" fn om_insert(
     v: u64,
     answer: &mut [u64; 4],
 )
-    requires { WellLinked map.old }
-    ensures { Told linked (C.insert poster k v) map.old map.new [] [] answer.new }
+    ensures { CallsTold (C.insert poster k v) map.old map.new [] [] answer.new }
 {
     answers::tell(answer, inserting::insert(map, poster, k, v));
 }
@@ -95,8 +92,7 @@ pub extern "C" fn om_insert_all(
     out: &mut [u64],
     answer: &mut [u64; 4],
 )
-    requires { WellLinked map.old }
-    ensures { Told linked (C.insert_all poster k v out.old) map.old map.new out.new [] answer.new }
+    ensures { CallsTold (C.insert_all poster k v out.old) map.old map.new out.new [] answer.new }
 {
     answers::tell(answer, inserting_all::insert_all(map, poster, k, v, out));
 }
@@ -104,8 +100,7 @@ pub extern "C" fn om_insert_all(
 // Takes the rounds of the member k out, and it with them; tells the first of them.
 #[unsafe(no_mangle)]
 pub extern "C" fn om_remove(map: &mut ListOrderedMultimap, k: u64, answer: &mut [u64; 4])
-    requires { WellLinked map.old }
-    ensures { Told linked (C.remove k) map.old map.new [] [] answer.new }
+    ensures { CallsTold (C.remove k) map.old map.new [] [] answer.new }
 {
     answers::tell(answer, Ok(removing::remove(map, k)));
 }
@@ -118,8 +113,7 @@ pub extern "C" fn om_remove_all(
     out: &mut [u64],
     answer: &mut [u64; 4],
 )
-    requires { WellLinked map.old }
-    ensures { Told linked (C.remove_all k out.old) map.old map.new out.new [] answer.new }
+    ensures { CallsTold (C.remove_all k out.old) map.old map.new out.new [] answer.new }
 {
     answers::tell(answer, removing::remove_all(map, k, out));
 }
@@ -127,8 +121,7 @@ pub extern "C" fn om_remove_all(
 // Takes the first round out.
 #[unsafe(no_mangle)]
 pub extern "C" fn om_pop_front(map: &mut ListOrderedMultimap, answer: &mut [u64; 4])
-    requires { WellLinked map.old }
-    ensures { Told linked C.pop_front map.old map.new [] [] answer.new }
+    ensures { CallsTold C.pop_front map.old map.new [] [] answer.new }
 {
     answers::tell(answer, Ok(popping::pop_front(map)));
 }
@@ -136,8 +129,7 @@ pub extern "C" fn om_pop_front(map: &mut ListOrderedMultimap, answer: &mut [u64;
 // Takes the last round out.
 #[unsafe(no_mangle)]
 pub extern "C" fn om_pop_back(map: &mut ListOrderedMultimap, answer: &mut [u64; 4])
-    requires { WellLinked map.old }
-    ensures { Told linked C.pop_back map.old map.new [] [] answer.new }
+    ensures { CallsTold C.pop_back map.old map.new [] [] answer.new }
 {
     answers::tell(answer, Ok(popping_back::pop_back(map)));
 }
@@ -145,8 +137,7 @@ pub extern "C" fn om_pop_back(map: &mut ListOrderedMultimap, answer: &mut [u64; 
 // Takes the rounds out whose mark is 0, and the members with no other round; tells how many rounds are kept.
 #[unsafe(no_mangle)]
 pub extern "C" fn om_retain(map: &mut ListOrderedMultimap, marks: &[u8], answer: &mut [u64; 4])
-    requires { WellLinked map.old }
-    ensures { Told linked (C.retain marks.now) map.old map.new [] [] answer.new }
+    ensures { CallsTold (C.retain marks.now) map.old map.new [] [] answer.new }
 {
     answers::tell(answer, retaining::retain(map, marks));
 }
@@ -160,8 +151,7 @@ pub extern "C" fn om_occupied_append(
     v: u64,
     answer: &mut [u64; 4],
 )
-    requires { WellLinked map.old }
-    ensures { Told linked (C.occupied_append poster k v) map.old map.new [] [] answer.new }
+    ensures { CallsTold (C.occupied_append poster k v) map.old map.new [] [] answer.new }
 {
     answers::tell(answer, entries::occupied_append(map, poster, k, v));
 }
@@ -175,8 +165,7 @@ pub extern "C" fn om_occupied_insert(
     v: u64,
     answer: &mut [u64; 4],
 )
-    requires { WellLinked map.old }
-    ensures { Told linked (C.occupied_insert poster k v) map.old map.new [] [] answer.new }
+    ensures { CallsTold (C.occupied_insert poster k v) map.old map.new [] [] answer.new }
 {
     answers::tell(answer, entries::occupied_insert(map, poster, k, v));
 }
@@ -188,8 +177,7 @@ pub extern "C" fn om_occupied_remove_entry(
     k: u64,
     answer: &mut [u64; 4],
 )
-    requires { WellLinked map.old }
-    ensures { Told linked (C.occupied_remove_entry k) map.old map.new [] [] answer.new }
+    ensures { CallsTold (C.occupied_remove_entry k) map.old map.new [] [] answer.new }
 {
     answers::tell(answer, entries::occupied_remove_entry(map, k));
 }
@@ -203,8 +191,7 @@ pub extern "C" fn om_vacant_insert(
     v: u64,
     answer: &mut [u64; 4],
 )
-    requires { WellLinked map.old }
-    ensures { Told linked (C.vacant_insert poster k v) map.old map.new [] [] answer.new }
+    ensures { CallsTold (C.vacant_insert poster k v) map.old map.new [] [] answer.new }
 {
     answers::tell(answer, entries::vacant_insert(map, poster, k, v));
 }
@@ -212,7 +199,7 @@ pub extern "C" fn om_vacant_insert(
 // Tells the member's first round.
 #[unsafe(no_mangle)]
 pub extern "C" fn om_get(map: &ListOrderedMultimap, k: u64, answer: &mut [u64; 4])
-    ensures { WellLinked map.now → Told linked (C.get k) map.now map.now [] [] answer.new }
+    ensures { CallsTold (C.get k) map.now map.now [] [] answer.new }
 {
     answers::tell(answer, Ok(reading::get(map, k)));
 }
@@ -225,7 +212,7 @@ pub extern "C" fn om_get_all(
     out: &mut [u64],
     answer: &mut [u64; 4],
 )
-    ensures { WellLinked map.now → Told linked (C.get_all k out.old) map.now map.now out.new [] answer.new }
+    ensures { CallsTold (C.get_all k out.old) map.now map.now out.new [] answer.new }
 {
     answers::tell(answer, reading::get_all(map, k, out));
 }
@@ -233,7 +220,7 @@ pub extern "C" fn om_get_all(
 // Tells the member's entry.
 #[unsafe(no_mangle)]
 pub extern "C" fn om_entry(map: &ListOrderedMultimap, k: u64, answer: &mut [u64; 4])
-    ensures { WellLinked map.now → Told linked (C.entry k) map.now map.now [] [] answer.new }
+    ensures { CallsTold (C.entry k) map.now map.now [] [] answer.new }
 {
     answers::tell(answer, Ok(reading::entry(map, k)));
 }
@@ -241,7 +228,7 @@ pub extern "C" fn om_entry(map: &ListOrderedMultimap, k: u64, answer: &mut [u64;
 // Tells how many rounds the member has.
 #[unsafe(no_mangle)]
 pub extern "C" fn om_entry_len(map: &ListOrderedMultimap, k: u64, answer: &mut [u64; 4])
-    ensures { WellLinked map.now → Told linked (C.entry_len k) map.now map.now [] [] answer.new }
+    ensures { CallsTold (C.entry_len k) map.now map.now [] [] answer.new }
 {
     answers::tell(answer, Ok(reading::entry_len(map, k)));
 }
@@ -249,7 +236,7 @@ pub extern "C" fn om_entry_len(map: &ListOrderedMultimap, k: u64, answer: &mut [
 // Tells whether the number is a member.
 #[unsafe(no_mangle)]
 pub extern "C" fn om_contains_key(map: &ListOrderedMultimap, k: u64, answer: &mut [u64; 4])
-    ensures { WellLinked map.now → Told linked (C.contains_key k) map.now map.now [] [] answer.new }
+    ensures { CallsTold (C.contains_key k) map.now map.now [] [] answer.new }
 {
     answers::tell(answer, Ok(reading::contains_key(map, k)));
 }
@@ -257,7 +244,7 @@ pub extern "C" fn om_contains_key(map: &ListOrderedMultimap, k: u64, answer: &mu
 // Writes the members, in joining order, to the front of `out`, and tells how many.
 #[unsafe(no_mangle)]
 pub extern "C" fn om_keys(map: &ListOrderedMultimap, out: &mut [u64], answer: &mut [u64; 4])
-    ensures { WellLinked map.now → Told linked (C.keys out.old) map.now map.now out.new [] answer.new }
+    ensures { CallsTold (C.keys out.old) map.now map.now out.new [] answer.new }
 {
     answers::tell(answer, reading::keys(map, out));
 }
@@ -265,7 +252,7 @@ pub extern "C" fn om_keys(map: &ListOrderedMultimap, out: &mut [u64], answer: &m
 // Tells how many members there are.
 #[unsafe(no_mangle)]
 pub extern "C" fn om_keys_len(map: &ListOrderedMultimap, answer: &mut [u64; 4])
-    ensures { WellLinked map.now → Told linked C.keys_len map.now map.now [] [] answer.new }
+    ensures { CallsTold C.keys_len map.now map.now [] [] answer.new }
 {
     answers::tell(answer, Ok(reading::keys_len(map)));
 }
@@ -273,7 +260,7 @@ pub extern "C" fn om_keys_len(map: &ListOrderedMultimap, answer: &mut [u64; 4])
 // Tells how many rounds there are.
 #[unsafe(no_mangle)]
 pub extern "C" fn om_values_len(map: &ListOrderedMultimap, answer: &mut [u64; 4])
-    ensures { WellLinked map.now → Told linked C.values_len map.now map.now [] [] answer.new }
+    ensures { CallsTold C.values_len map.now map.now [] [] answer.new }
 {
     answers::tell(answer, Ok(reading::values_len(map)));
 }
@@ -286,7 +273,7 @@ pub extern "C" fn om_iter(
     out2: &mut [u64],
     answer: &mut [u64; 4],
 )
-    ensures { WellLinked map.now → Told linked (C.iter out.old out2.old) map.now map.now out.new out2.new answer.new }
+    ensures { CallsTold (C.iter out.old out2.old) map.now map.now out.new out2.new answer.new }
 {
     answers::tell(answer, reading::iter(map, out, out2));
 }
@@ -294,7 +281,7 @@ pub extern "C" fn om_iter(
 // Writes how many rounds were ever taken in, of each of the sixteen posters, and tells that they are sixteen.
 #[unsafe(no_mangle)]
 pub extern "C" fn om_taken(map: &ListOrderedMultimap, out: &mut [u64; 16], answer: &mut [u64; 4])
-    ensures { WellLinked map.now → Told linked (C.taken out.old) map.now map.now out.new [] answer.new }
+    ensures { CallsTold (C.taken out.old) map.now map.now out.new [] answer.new }
 {
     answers::tell(answer, Ok(reading::taken(map, out)));
 }

@@ -20,8 +20,8 @@ use ordered_multimap::Reply;
 
 // Writes the image of the map to the front of `out`.
 pub fn write_image(m: ListOrderedMultimap, out: &mut [u8]) -> Reply<Result<usize, Refusal>>
-    requires { WellLinked m }
-    ensures { (write (answered C.count result.answer) out.new ≡ write_of (state_of m) out.old) × (result.map ≡ m) }
+    ensures written { WellLinked m → write (answered C.count result.answer) out.new ≡ write_of (state_of m) out.old }
+    ensures same { result.map ≡ m }
 {
     let answer = image::write_image(&m, out);
     Reply { map: m, answer }

@@ -5,8 +5,7 @@
 ghost use Rattle.answers.specs.Answers.{answered, round_of};
 ghost use Rattle.steps.specs.Call as C;
 ghost use Rattle.steps.specs.Step.{say, write};
-ghost use Rattle.steps.specs.Trace.{Does};
-ghost use Rattle.multimap.specs.WellLinked.{WellLinked, linked};
+ghost use Rattle.multimap.specs.WellLinked.{Calls};
 ghost use Rattle.removing.specs.Expel.{RecordOut};
 
 use answers::Refusal;
@@ -15,8 +14,7 @@ use multimap::ListOrderedMultimap;
 
 // Takes the rounds of the member k out, and it with them; answers the first of them.
 pub fn remove(map: &mut ListOrderedMultimap, k: u64) -> Option<u64>
-    requires { WellLinked map.old }
-    ensures { Does linked (C.remove k) map.old (say (round_of result)) map.new }
+    ensures { Calls (C.remove k) map.old (say (round_of result)) map.new }
 {
     let Found::At(_, key, _) = index::find(&map.index, &map.keys, k) else {
         return None;
@@ -28,8 +26,7 @@ pub fn remove(map: &mut ListOrderedMultimap, k: u64) -> Option<u64>
 
 // Takes the rounds of the member k out, and it with them; writes them to the front of `out` and answers how many.
 pub fn remove_all(map: &mut ListOrderedMultimap, k: u64, out: &mut [u64]) -> Result<usize, Refusal>
-    requires { WellLinked map.old }
-    ensures { Does linked (C.remove_all k out.old) map.old (write (answered C.count result) out.new) map.new }
+    ensures { Calls (C.remove_all k out.old) map.old (write (answered C.count result) out.new) map.new }
 {
     let Found::At(_, key, _) = index::find(&map.index, &map.keys, k) else {
         return Ok(0);

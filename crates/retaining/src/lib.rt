@@ -7,9 +7,8 @@ ghost use Rattle.answers.specs.Answers.{answered};
 ghost use Rattle.steps.specs.Lists.{all};
 ghost use Rattle.steps.specs.Call as C;
 ghost use Rattle.steps.specs.Step.{say};
-ghost use Rattle.steps.specs.Trace.{Does};
 ghost use Rattle.links.specs.Stores.{at};
-ghost use Rattle.multimap.specs.WellLinked.{WellLinked, linked};
+ghost use Rattle.multimap.specs.WellLinked.{Calls};
 ghost use Rattle.retaining.specs.Thin.{Thinned};
 
 use answers::Refusal;
@@ -19,8 +18,7 @@ use multimap::{ListOrderedMultimap, ROUNDS, ValuePlace};
 // Takes the rounds out whose mark is 0, and the members with no other round; answers how many rounds are kept.
 #[tactic(auto, using(crate::proofs::Thins::does_count, crate::proofs::Thins::does_value, crate::proofs::Thins::does_retain))]
 pub fn retain(map: &mut ListOrderedMultimap, marks: &[u8]) -> Result<usize, Refusal>
-    requires { WellLinked map.old }
-    ensures { Does linked (C.retain marks.now) map.old (say (answered C.count result)) map.new }
+    ensures { Calls (C.retain marks.now) map.old (say (answered C.count result)) map.new }
 {
     if marks.len() != map.rounds.len as usize {
         return Err(Refusal::MarksCount);

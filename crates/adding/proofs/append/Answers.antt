@@ -11,28 +11,28 @@ use Rattle.adding.proofs.append.Goals as goal
 
 pub returns-in_err-check_poster : goal.returns-in_err-check_poster
 returns-in_err-check_poster c =
-    let p = err_from_is_err_and c.from_residual.result c.from_residual.ensures.1 in
+    λ wl. let p = err_from_is_err_and c.from_residual.result c.from_residual.ensures.1 in
     let h = c.in_err-check_poster.ensures in
-    rw (p.1, p.2, h.1) (does_strange linked (append c.args.poster c.args.k c.args.v) c.args.map.now refl c.requires refl h.0)
+    rw (p.1, p.2, h.1) (does_strange linked (append c.args.poster c.args.k c.args.v) c.args.map.now refl wl refl h.0)
 
 pub returns-then-is_full : goal.returns-then-is_full
 returns-then-is_full c =
-    append_full c.args.poster c.args.k c.args.v c.args.map.now c.in_ok-check_poster.ensures c.requires
+    λ wl. append_full c.args.poster c.args.k c.args.v c.args.map.now c.in_ok-check_poster.ensures wl
     (leb-true _ _ (sym c.is_full.ensures ∙ c.if-is_full.true))
 
 pub returns-else-is_full : goal.returns-else-is_full
 returns-else-is_full c =
-    does_known c.args.map.now c.requires c.args.poster c.args.k c.args.v c.in_ok-check_poster.ensures
+    λ wl. does_known c.args.map.now wl c.args.poster c.args.k c.args.v c.in_ok-check_poster.ensures
     (leb-false _ _ (sym c.is_full.ensures ∙ c.if-is_full.false)) _ _ _ (sym c.find.ensures ∙ c.in-At.is) _ c.add.ensures
 
 pub returns-in_err-admit-in-Absent : goal.returns-in_err-admit-in-Absent
 returns-in_err-admit-in-Absent c =
-    let p = err_from_is_err_and c.from_residual-in_err-admit-in-Absent.result c.from_residual-in_err-admit-in-Absent.ensures.1 in
+    λ wl. let p = err_from_is_err_and c.from_residual-in_err-admit-in-Absent.result c.from_residual-in_err-admit-in-Absent.ensures.1 in
     rw (p.1, p.2)
-    (does_new c.args.map.now c.requires c.args.poster c.args.k c.args.v c.in_ok-check_poster.ensures _ _
+    (does_new c.args.map.now wl c.args.poster c.args.k c.args.v c.in_ok-check_poster.ensures _ _
     (sym c.find.ensures ∙ c.in-Absent.is) _ _ c.in_err-admit-in-Absent.ensures)
 
 pub returns-in_ok-admit-in-Absent : goal.returns-in_ok-admit-in-Absent
 returns-in_ok-admit-in-Absent c =
-    does_new c.args.map.now c.requires c.args.poster c.args.k c.args.v c.in_ok-check_poster.ensures _ _
+    λ wl. does_new c.args.map.now wl c.args.poster c.args.k c.args.v c.in_ok-check_poster.ensures _ _
     (sym c.find.ensures ∙ c.in-Absent.is) _ _ c.in_ok-admit-in-Absent.ensures

@@ -3,7 +3,7 @@ use Rattle.entries.proofs.Calls.{no_remove, removed}
 use Rattle.entries.proofs.occupied_remove_entry.Goals as goal
 
 pub returns-in_default : goal.returns-in_default
-returns-in_default c = no_remove c.args.map.now c.requires c.args.k c.in_default.ensures.reads
+returns-in_default c = λ wl. no_remove c.args.map.now wl c.args.k c.in_default.ensures.reads
 
 pub returns : goal.returns
-returns c = removed c.args.map.now c.requires c.args.k c.in-Occupied.ensures.reads _ _ c.remove.ensures
+returns c = λ wl. removed c.args.map.now wl c.args.k c.in-Occupied.ensures.reads _ _ (c.remove.ensures wl)

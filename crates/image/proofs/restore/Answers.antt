@@ -14,7 +14,7 @@ returns-in_default c =
     restored_many _ s allowed c.requires.2
     (building_stuck _ s n c.loop-i.invariant allowed.rounds c.requires.2.few c.loop-i-test.true
     (nth_read s 8 n i c.loop-i-test.true c.bytes_at.ensures c.from_le_bytes-k.ensures)
-    (nth_read s (8 + 8 * n) n i c.loop-i-test.true c.bytes_at-in-loop-i.ensures c.from_le_bytes-v.ensures) c.in_default.ensures)
+    (nth_read s (8 + 8 * n) n i c.loop-i-test.true c.bytes_at-in-loop-i.ensures c.from_le_bytes-v.ensures) (c.in_default.ensures c.loop-i.invariant.linked))
 
 pub loop-i-preserved : goal.loop-i-preserved
 loop-i-preserved c =
@@ -23,7 +23,7 @@ loop-i-preserved c =
     let i = c.loop-i.i in
     building_one _ s n c.loop-i.invariant c.requires.0.limited.allowed.rounds c.requires.2.few c.loop-i-test.true
     (nth_read s 8 n i c.loop-i-test.true c.bytes_at.ensures c.from_le_bytes-k.ensures)
-    (nth_read s (8 + 8 * n) n i c.loop-i-test.true c.bytes_at-in-loop-i.ensures c.from_le_bytes-v.ensures) c.in-Ok.ensures
+    (nth_read s (8 + 8 * n) n i c.loop-i-test.true c.bytes_at-in-loop-i.ensures c.from_le_bytes-v.ensures) (c.in-Ok.ensures c.loop-i.invariant.linked)
 
 pub returns : goal.returns
 returns c =

@@ -9,21 +9,21 @@ use Rattle.inserting.proofs.insert.Goals as goal
 
 pub returns-in_err-check_poster : goal.returns-in_err-check_poster
 returns-in_err-check_poster c =
-    strange (insert c.args.poster c.args.k c.args.v) c.args.map.now round_of _ _ refl c.requires c.in_err-check_poster.ensures c.from_residual.ensures.1
+    λ wl. strange (insert c.args.poster c.args.k c.args.v) c.args.map.now round_of _ _ refl wl c.in_err-check_poster.ensures c.from_residual.ensures.1
 
 pub returns-in-At : goal.returns-in-At
 returns-in-At c =
-    does_known c.args.map.now c.requires c.args.poster c.args.k c.args.v c.in_ok-check_poster.ensures
+    λ wl. does_known c.args.map.now wl c.args.poster c.args.k c.args.v c.in_ok-check_poster.ensures
     _ _ _ (sym c.find.ensures ∙ c.in-At.is) c.head.ensures c.round-first.ensures _ c.replace.ensures
 
 pub returns-in_err-admit-in-Absent : goal.returns-in_err-admit-in-Absent
 returns-in_err-admit-in-Absent c =
-    let p = err_from_is_err_and c.from_residual-in_err-admit-in-Absent.result c.from_residual-in_err-admit-in-Absent.ensures.1 in
+    λ wl. let p = err_from_is_err_and c.from_residual-in_err-admit-in-Absent.result c.from_residual-in_err-admit-in-Absent.ensures.1 in
     rw (p.1, p.2)
-    (does_new c.args.map.now c.requires c.args.poster c.args.k c.args.v c.in_ok-check_poster.ensures _ _
+    (does_new c.args.map.now wl c.args.poster c.args.k c.args.v c.in_ok-check_poster.ensures _ _
     (sym c.find.ensures ∙ c.in-Absent.is) _ _ c.in_err-admit-in-Absent.ensures)
 
 pub returns-in_ok-admit-in-Absent : goal.returns-in_ok-admit-in-Absent
 returns-in_ok-admit-in-Absent c =
-    does_new c.args.map.now c.requires c.args.poster c.args.k c.args.v c.in_ok-check_poster.ensures _ _
+    λ wl. does_new c.args.map.now wl c.args.poster c.args.k c.args.v c.in_ok-check_poster.ensures _ _
     (sym c.find.ensures ∙ c.in-Absent.is) _ _ c.in_ok-admit-in-Absent.ensures

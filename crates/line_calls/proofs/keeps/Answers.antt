@@ -15,4 +15,4 @@ pub returns : goal.returns
 unfolding answer_of idle
 returns c =
     let marks = c.to_marks.ensures ∙ ap (map mark_of) c.copy_from_slice.ensures.after in
-    replied_as _ (replied kept refl (does_marks c.retain.ensures marks) c.print_answer.ensures refl) (marks_short c.args.bytes.now c.if-bytes-gt-MAX_LINE.false)
+    replied_as _ (replied kept refl (does_marks (c.retain.ensures c.requires) marks) c.print_answer.ensures refl) (marks_short c.args.bytes.now c.if-bytes-gt-MAX_LINE.false)

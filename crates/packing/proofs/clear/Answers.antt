@@ -3,7 +3,7 @@ use Rattle.packing.proofs.Clears.{clears, stays}
 use Rattle.packing.proofs.clear.Goals as goal
 
 pub returns-then-map-eq0 : goal.returns-then-map-eq0
-returns-then-map-eq0 c = stays c.args.map.now c.requires c.if-map-eq0.true
+returns-then-map-eq0 c = λ wl. stays c.args.map.now wl c.if-map-eq0.true
 
 pub returns : goal.returns
-returns c = rw c.vacate.ensures (clears c.args.map.now c.requires)
+returns c = λ wl. rw c.vacate.ensures (clears c.args.map.now wl)

@@ -4,9 +4,9 @@ use Rattle.removing.proofs.Expels.{does_none, does_remove}
 use Rattle.removing.proofs.remove.Goals as goal
 
 pub returns-in_default : goal.returns-in_default
-returns-in_default c = does_none c.args.map.now c.requires c.args.k _ _ (sym c.find.ensures ∙ c.in_default.is)
+returns-in_default c = λ wl. does_none c.args.map.now wl c.args.k _ _ (sym c.find.ensures ∙ c.in_default.is)
 
 pub returns : goal.returns
 returns c =
-    does_remove c.args.map.now c.requires c.args.k _ _ _ (sym c.find.ensures ∙ c.in-At.is) c.head.ensures
+    λ wl. does_remove c.args.map.now wl c.args.k _ _ _ (sym c.find.ensures ∙ c.in-At.is) c.head.ensures
     c.round-round.ensures _ c.remove_record.ensures

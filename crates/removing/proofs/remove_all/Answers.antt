@@ -6,16 +6,16 @@ use Rattle.removing.proofs.remove_all.Goals as goal
 
 pub returns-in_default : goal.returns-in_default
 returns-in_default c =
-    does_all_none c.args.map.now c.requires c.args.k c.args.out.now _ _ (sym c.find.ensures ∙ c.in_default.is)
+    λ wl. does_all_none c.args.map.now wl c.args.k c.args.out.now _ _ (sym c.find.ensures ∙ c.in_default.is)
 
 pub returns-in_err-n : goal.returns-in_err-n
 returns-in_err-n c =
-    let p = err_from_is_err_and c.from_residual.result c.from_residual.ensures.1 in
+    λ wl. let p = err_from_is_err_and c.from_residual.result c.from_residual.ensures.1 in
     rw (p.1, p.2)
-    (does_short c.args.map.now c.requires c.args.k c.args.out.now _ _ _ (sym c.find.ensures ∙ c.in-At.is)
+    (does_short c.args.map.now wl c.args.k c.args.out.now _ _ _ (sym c.find.ensures ∙ c.in-At.is)
     c.head-head.ensures c.size-size.ensures c.in_err-n.ensures _ refl)
 
 pub returns : goal.returns
 returns c =
-    does_all c.args.map.now c.requires c.args.k c.args.out.now _ _ _ (sym c.find.ensures ∙ c.in-At.is)
+    λ wl. does_all c.args.map.now wl c.args.k c.args.out.now _ _ _ (sym c.find.ensures ∙ c.in-At.is)
     c.head-head.ensures c.size-size.ensures c.in_ok-n.ensures _ refl _ c.remove_record.ensures
