@@ -1,14 +1,14 @@
 -- What a call did, printed; and the marks that are copied for one. Assumes nothing.
-use Prim.Native.Nat.{ℕ, ◌+◌, ◌≤◌, ◌<◌}
+use Prim.Native.Nat.{ℕ, ◌+◌, ◌≤◌}
 use mathlib.Core.Path.{◌≡◌, refl, sym, ap, ◌∙◌}
 use mathlib.Core.List.{List, ◌++◌, map}
 use mathlib.Core.Bool.{true}
 use native.Mathlib.Omega.{arith}
-use borrow.Author.Tests.{le-leb, lt-leb}
+use borrow.Author.Tests.{le-leb}
 use lib.ListN.{length, drop}
 use lib.Seq.{sets-eq}
 use Rattle.steps.specs.State.{State}
-use Rattle.steps.specs.Call.{Call, Answer, Outcome, Lent, lend, retain}
+use Rattle.steps.specs.Call.{Call, Answer, Outcome, Lent, lend}
 use Rattle.steps.specs.Step.{step, over}
 use Rattle.steps.specs.Trace.{Does}
 use Rattle.steps.specs.Accounting.{is_refused}
@@ -46,10 +46,6 @@ pub shown : {l : Line} {c : Call} {m : ListOrderedMultimap} {o o2 was out : List
     → Prints was (text_of (counted (lend o o2)) a) out n → Replied l m was out m n
 shown counted e d p = replied_when counted e d p (λ h. refl)
 
--- the same marks by another name
-pub does_marks : {m m' : ListOrderedMultimap} {o : Outcome} {x y : List ℕ} → Does linked (retain x) m o m' → x ≡ y → Does linked (retain y) m o m'
-does_marks d e = rw e at d
-
 -- what is written to the front is there
 pub put_over : {was x out : List ℕ} {r : ℕ} → Put was 0 x out r → length x ≤ length was → out ≡ over x was
 put_over {was} {x} {out} {r} p h = p.written ∙ sets-eq x was 0 (omega arith) ∙ ap (λ (n : ℕ). x ++ drop n was) (zero_plus (length x))
@@ -69,6 +65,3 @@ replied_bad m g p = record { prints = p; state = refl; linked = g; same = λ e. 
 
 pub marks_short : (bytes : List ℕ) → length bytes ≤ 1100 → keeps (map mark_of bytes) ≡ marks_line bytes
 marks_short bytes h = rw (le-leb (length bytes) 1100 h)
-
-pub marks_long : (bytes : List ℕ) → 1100 < length bytes → bad ≡ marks_line bytes
-marks_long bytes h = rw (lt-leb (length bytes) 1100 h)

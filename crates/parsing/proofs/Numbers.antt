@@ -4,10 +4,10 @@ use mathlib.Core.Path.{◌≡◌, refl, sym, ◌∙◌}
 use mathlib.Core.Bool.{Bool, true, false, cond, ◌&&◌}
 use mathlib.Core.List.{List, [], ◌∷◌}
 use native.Mathlib.Omega.{arith}
-use borrow.Author.Tests.{le-ltb, lt-ltb, ltb-false}
+use borrow.Author.Tests.{le-ltb, ltb-false}
 use native.Mathlib.Numerals.{add-one}
 use lib.Dec.{ltb}
-use lib.ListN.{length, get_or, drop, drop_of_length-le}
+use lib.ListN.{length, get_or, drop}
 use lib.Seq.{drop-cons}
 use Rattle.std.specs.Prelude.{Some, None, ◌==◌}
 use Rattle.std.specs.Char.{is_ascii_digit}
@@ -35,9 +35,6 @@ pub off : (s : List ℕ) (n i : ℕ) → i < length s → None ≡ number_from n
 off s n i h e =
     let here : number_from n (drop i s) ≡ number_from n (get_or s i 0 ∷ drop (i + 1) s) = rw (add-one i, drop-cons s i 0) in
     stops n (get_or s i 0) (drop (i + 1) s) e ∙ sym here
-
-pub at_end : (s : List ℕ) (n i : ℕ) → length s ≤ i → n < 2 ^ 64 → Some n ≡ number_from n (drop i s)
-at_end s n i h g = rw (drop_of_length-le s {i = i} h, lt-ltb n (2 ^ 64) g) refl
 
 pub some_digits : (s : List ℕ) → (length s == 0) ≡ false → number_from 0 s ≡ number_of s
 some_digits [] e = absurd (grind arith)
