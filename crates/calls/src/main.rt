@@ -56,12 +56,11 @@ fn answer_all(
     requires roomy { Roomy out.old }
     ensures { WellLinked map.new }
 {
-    let mut at = 0;
-    // Goes on by as many bytes as a turn uses up: no iterator gives these parts before they are answered.
-    while at < chunk.len() {
-        let next = lines::answer_chunk(map, &chunk[at..], line, out);
+    let mut rest = chunk;
+    while !rest.is_empty() {
+        let next = lines::answer_chunk(map, rest, line, out);
         write_output(rt, &out[..next.used])?;
-        at += next.eaten;
+        rest = &rest[next.eaten..];
     }
     Ok(())
 }

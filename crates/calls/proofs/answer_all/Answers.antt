@@ -1,12 +1,12 @@
 -- Each turn of `calls::answer_all` takes some of what is left of the chunk.
-use Rattle.std.proofs.Common.{arith, ◌-◌, ◌<◌, ◌≡◌, length, take, drop, length-take, length-drop}
+use Rattle.std.proofs.Common.{arith, ◌-◌, ◌<◌, length, drop, length-take, length-drop}
 use Rattle.lines.proofs.Chunks.{eats}
 use Rattle.calls.proofs.answer_all.Goals as goal
 
-pub loop-at-smaller : goal.loop-at-smaller
-loop-at-smaller g c =
-    let chunk = c.args.chunk.now in
-    let at = c.loop-at.at in
-    let part : length (take (length chunk - at) (drop at chunk)) ≡ length chunk - at = omega (arith, length-take (length chunk - at) (drop at chunk), length-drop at chunk) in
-    let some : 0 < c.answer_chunk-next.result.eaten = eats c.answer_chunk-next.ensures (omega (arith, c.requires.roomy)) (omega (arith, part, c.loop-at-test.true)) in
-    omega (arith, c.answer_chunk-next.ensures.within, part)
+pub loop-rest-smaller : goal.loop-rest-smaller
+loop-rest-smaller g c =
+    let rest = c.loop-rest.rest.now in
+    let n = c.answer_chunk-next.result.eaten in
+    let left : 0 < length rest = grind (arith, c.loop-rest-test.ensures) in
+    let some : 0 < n = eats c.answer_chunk-next.ensures (omega (arith, c.requires.roomy)) left in
+    omega (arith, some, c.answer_chunk-next.ensures.within, length-take (length rest - n) (drop n rest), length-drop n rest)
