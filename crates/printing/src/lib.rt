@@ -108,7 +108,7 @@ pub fn print_bad(out: &mut [u8]) -> usize
 fn first(n: u64, numbers: &[u64]) -> &[u64]
     ensures { result.now ≡ take n numbers.now }
 {
-    &numbers[..numbers.len().min(n as usize)]
+    numbers.get(..n as usize).unwrap_or(numbers)
 }
 
 // Gives what a call answers as the answer of any call.
