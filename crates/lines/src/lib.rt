@@ -42,7 +42,7 @@ impl Unfinished {
     fn front(&self) -> &[u8]
         ensures { result.now ≡ held_of self.now }
     {
-        &self.bytes[..self.held.min(MAX_HELD)]
+        self.bytes.get(..self.held).unwrap_or(&self.bytes)
     }
 }
 
@@ -59,7 +59,7 @@ pub fn answer_chunk(
 {
     let mut used = 0;
     let mut at = 0;
-    // Goes on by as many bytes as a turn uses up: no iterator gives these parts before they are answered.
+    // Goes by indices, since the answer says how many bytes were printed and used; no iterator gives these parts before they are answered.
     while at < chunk.len() && MAX_PRINTED <= out.len() - used {
         let next = answer_next(map, &chunk[at..], line, &mut out[used..]);
         used += next.used;
