@@ -15,12 +15,13 @@ use Rattle.steps.specs.State.{State}
 use Rattle.multimap.specs.Map.{state_of}
 use Rattle.multimap.specs.WellLinked.{WellLinked}
 use Rattle.multimap.specs.declared.ListOrderedMultimap.{ListOrderedMultimap}
-use Rattle.parsing.specs.Split.{gap, Ends, GoesOn}
+use Rattle.parsing.specs.Split.{gap}
 use Rattle.parsing.proofs.Splits.{take_front}
 use Rattle.printing.specs.Said.{Roomy}
 use Rattle.one_line.specs.Answers.{Answered, Answers}
 use Rattle.lines.specs.Output.{output_of, after}
 use Rattle.lines.specs.Chunk.{held_of, ended, rest, front, Chunked, AnswersChunk, AnswersRest}
+use Rattle.lines.specs.Taken.{Ends, GoesOn}
 use Rattle.lines.specs.declared.Progress.{Progress}
 use Rattle.lines.specs.declared.Unfinished.{Unfinished}
 use Rattle.lines.proofs.Outputs.{same_printed, same_after, outputs_none, outputs_one, outputs_as, outputs_join}
@@ -139,28 +140,28 @@ goes_on [] h i = (refl, sym (append-nil h))
 goes_on (b ∷ c) h i = goes_when b c h (eqb b 10) i (goes_on c)
 
 -- what `take_line` takes of a chunk, and what is done with it
-module _ {chunk was line : List ℕ} {held r : ℕ} (long : length was ≡ 1101) where
+module _ {chunk : List ℕ} {was line : Unfinished} (long : length was.bytes ≡ 1101) where
   -- a line has ended, and is answered
-  pub took_line : {m m' : ListOrderedMultimap} {old out : List ℕ} {u n : ℕ} → Ends chunk was held line r u → Roomy old → Answered (take r line) m old out m' n
-      → Chunked (take held was) (take u chunk) m old out m' n []
+  pub took_line : {m m' : ListOrderedMultimap} {old out : List ℕ} {u n : ℕ} → Ends chunk was line u → Roomy old → Answered (held_of line) m old out m' n
+      → Chunked (held_of was) (take u chunk) m old out m' n []
   took_line {m} {m'} {old} {out} {u} {n} k h a =
-      let all = take held was ++ take (gap 10 chunk) chunk in
+      let all = held_of was ++ take (gap 10 chunk) chunk in
       let g : gap 10 chunk < length chunk = k.within in
       let e : u ≡ suc (gap 10 chunk) = k.used ∙ add-one (gap 10 chunk) in
-      let f : front (take r line) ≡ front all = ap front (k.holds.front ∙ ap (λ (i : ℕ). take i all) long) ∙ front_front all in
+      let f : front (held_of line) ≡ front all = ap front (k.holds.front ∙ ap (λ (i : ℕ). take i all) long) ∙ front_front all in
       record {
-        outputs = rw (e, (ends chunk (take held was) g).0) (outputs_one all f h a);
-        held = sym (ap front (ap (λ (i : ℕ). rest (take held was) (take i chunk)) e ∙ (ends chunk (take held was) g).1));
+        outputs = rw (e, (ends chunk (held_of was) g).0) (outputs_one all f h a);
+        held = sym (ap front (ap (λ (i : ℕ). rest (held_of was) (take i chunk)) e ∙ (ends chunk (held_of was) g).1));
       }
 
   -- the line goes on
-  pub took_part : {m : ListOrderedMultimap} (old : List ℕ) → GoesOn chunk was held line r → WellLinked m → Chunked (take held was) (take (length chunk) chunk) m old old m 0 (take r line)
+  pub took_part : {m : ListOrderedMultimap} (old : List ℕ) → GoesOn chunk was line → WellLinked m → Chunked (held_of was) (take (length chunk) chunk) m old old m 0 (held_of line)
   took_part {m} old k l =
       let g : length chunk ≤ gap 10 chunk = omega (arith, k.whole) in
       let u : take (length chunk) chunk ≡ chunk = take_all (length chunk) chunk (omega arith) in
       record {
-        outputs = rw (u, (goes_on chunk (take held was) g).0) (outputs_none m old l);
-        held = k.holds.front ∙ ap (λ (i : ℕ). take i (take held was ++ chunk)) long ∙ ap front (sym (goes_on chunk (take held was) g).1 ∙ ap (rest (take held was)) (sym u));
+        outputs = rw (u, (goes_on chunk (held_of was) g).0) (outputs_none m old l);
+        held = k.holds.front ∙ ap (λ (i : ℕ). take i (held_of was ++ chunk)) long ∙ ap front (sym (goes_on chunk (held_of was) g).1 ∙ ap (rest (held_of was)) (sym u));
       }
 
 -- ---- the end of the input

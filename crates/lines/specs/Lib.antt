@@ -1,3 +1,4 @@
 pub mod Output
 pub mod Chunk
+pub mod Taken
 pub mod Whole

@@ -6,9 +6,9 @@ ghost use Rattle.std.specs.Prelude.{◌<◌, ◌≤◌, ◌≡◌, [], length, t
 ghost use Rattle.multimap.specs.WellLinked.{WellLinked};
 ghost use Rattle.printing.specs.Said.{Roomy};
 ghost use Rattle.lines.specs.Chunk.{held_of, Chunked, AnswersChunk, AnswersRest};
+ghost use Rattle.lines.specs.Taken.{Took};
 
 use multimap::ListOrderedMultimap;
-use parsing::Taken;
 use printing::MAX_PRINTED;
 
 // As many bytes of a line are held as are needed to see that it is too long.
@@ -43,6 +43,16 @@ impl Unfinished {
         ensures { result.now ≡ held_of self.now }
     {
         self.bytes.get(..self.held).unwrap_or(&self.bytes)
+    }
+
+    // Takes a chunk of the input up to its first line end. Where there is one the line has ended, and so many bytes of the chunk are used, the
+    // line end too; else all are.
+    fn take_line(&mut self, chunk: &[u8]) -> Option<usize>
+        ensures { Took chunk.now self.old self.new result }
+    {
+        let n = parsing::gap(chunk, b'\n');
+        self.held = parsing::hold(&chunk[..n], &mut self.bytes, self.held);
+        (n < chunk.len()).then_some(n + 1)
     }
 }
 
@@ -95,22 +105,15 @@ fn answer_next(
     ensures chunked { Chunked (held_of line.old) (take result.eaten chunk.now) map.old out.old out.new map.new result.used (held_of line.new) }
     ensures eaten_nonzero { (0 < result.eaten) × (result.eaten ≤ length chunk.now) }
 {
-    match parsing::take_line(chunk, &mut line.bytes, line.held) {
-        Taken::Ended { held, used } => {
-            line.held = held;
-            let printed = one_line::answer_line(map, line.front(), out);
+    match line.take_line(chunk) {
+        Some(eaten) => {
+            let used = one_line::answer_line(map, line.front(), out);
             line.held = 0;
-            Progress {
-                used: printed,
-                eaten: used,
-            }
+            Progress { used, eaten }
         }
-        Taken::Unended { held } => {
-            line.held = held;
-            Progress {
-                used: 0,
-                eaten: chunk.len(),
-            }
-        }
+        None => Progress {
+            used: 0,
+            eaten: chunk.len(),
+        },
     }
 }

@@ -9,9 +9,7 @@ use lib.Seq.{take_all, take-append-add}
 use Rattle.std.proofs.lemmas.List.{take_min}
 use Rattle.std.proofs.lemmas.Slice.{take-put_mid, drop-put_mid}
 use borrow.Rule.Slice.PartMut.{put_mid, same_len_mid}
-use Rattle.std.specs.Prelude.{Some, None}
-use Rattle.parsing.specs.Split.{Held, Ends, GoesOn, find}
-use Rattle.parsing.proofs.Gaps.{found, not_found}
+use Rattle.parsing.specs.Split.{Held}
 use Rattle.parsing.specs.Line.{line_of}
 use Rattle.parsing.proofs.Forms.{line_long}
 use borrow.Author.Tests.{leb-true, leb-false}
@@ -37,16 +35,6 @@ held_put {A} values was ys held at k r e h j i =
       within = omega arith;
       long = long;
     }
-
--- a line has ended
-pub ends : {chunk was line : List ℕ} {held n r : ℕ} → find 10 chunk ≡ Some n → Held (take n chunk) was held line r → Ends chunk was held line r (n + 1)
-ends {chunk} {was} {line} {held} {n} e t =
-    let f = found 10 chunk n e in
-    record { holds = rw f.is at t; within = omega (arith, f.is, f.within); used = ap (λ (k : ℕ). k + 1) f.is }
-
--- the line goes on
-pub goes_on : {chunk was line : List ℕ} {held r : ℕ} → find 10 chunk ≡ None → Held chunk was held line r → GoesOn chunk was held line r
-goes_on {chunk} e t = record { holds = t; whole = not_found 10 chunk e }
 
 -- ---- what is held of a line
 

@@ -1,7 +1,5 @@
--- What is taken of a chunk of the input up to its first line end, and held.
-use Rattle.std.specs.Prelude.{ℕ, suc, ◌+◌, ◌≤◌, ◌<◌, ◌≡◌, cond, List, [], ◌∷◌, ◌++◌, eqb, length, take, drop, Option, position, ◌==◌}
-use Rattle.parsing.specs.declared.Taken.{Taken}
-use Rattle.parsing.specs.declared.Taken.TheVariants.{Ended, Unended}
+-- What stands before the first of a byte, and what of a line is held.
+use Rattle.std.specs.Prelude.{ℕ, suc, ◌≤◌, ◌≡◌, cond, List, [], ◌∷◌, ◌++◌, eqb, length, take, drop, Option, position, ◌==◌}
 
 -- how many bytes stand before the first b; all, where there is none
 unfoldable pub gap : ℕ → List ℕ → ℕ
@@ -19,18 +17,3 @@ pub record Held {A : Type 0} (values was : List A) (held : ℕ) (line : List A) 
   pub past : drop r line ≡ drop r was
   pub within : r ≤ length line
   pub long : length line ≡ length was
-
--- the chunk's bytes before its first line end are held, and so many bytes of the chunk are used, the line end too
-pub record Ends (chunk was : List ℕ) (held : ℕ) (line : List ℕ) (r u : ℕ) : Type 0 where
-  pub holds : Held (take (gap 10 chunk) chunk) was held line r
-  pub within : gap 10 chunk < length chunk
-  pub used : u ≡ gap 10 chunk + 1
-
--- the chunk has no line end, and is held whole
-pub record GoesOn (chunk was : List ℕ) (held : ℕ) (line : List ℕ) (r : ℕ) : Type 0 where
-  pub holds : Held chunk was held line r
-  pub whole : gap 10 chunk ≡ length chunk
-
-abbrev pub Took : List ℕ → List ℕ → ℕ → List ℕ → Taken → Type 0
-Took chunk was held line (Ended r used) = Ends chunk was held line r used
-Took chunk was held line (Unended r) = GoesOn chunk was held line r

@@ -4,7 +4,7 @@
 
 ghost use Rattle.std.specs.Prelude.{◌≡◌, ◌≤◌, List, [], ◌∷◌, ℕ, length};
 ghost use Rattle.parsing.specs.Line as Line;
-ghost use Rattle.parsing.specs.Split.{gap as gap_of, find as find_of, Held, Took};
+ghost use Rattle.parsing.specs.Split.{gap as gap_of, find as find_of, Held};
 ghost use Rattle.parsing.specs.Told.{told};
 ghost use Rattle.std.specs.List.{list_all};
 
@@ -82,31 +82,6 @@ pub fn hold<T: Copy>(values: &[T], line: &mut [T], held: usize) -> usize
     let end = at + values.len().min(line.len() - at);
     line[at..end].copy_from_slice(&values[..end - at]);
     end
-}
-
-// How many of a line's first bytes are held.
-#[derive(Clone, Copy)]
-pub enum Taken {
-    // The line ended, and so many bytes of the chunk are used, its line end too.
-    Ended { held: usize, used: usize },
-    // The whole chunk is used.
-    Unended { held: usize },
-}
-
-// Takes a chunk of the input up to its first line end. As many bytes of the line are held as `line` is long: in MAX_LINE + 1 of them `parse`
-// sees that a line is too long.
-pub fn take_line(chunk: &[u8], line: &mut [u8], held: usize) -> Taken
-    ensures { Took chunk.now line.old held line.new result }
-{
-    match find(chunk, b'\n') {
-        Some(n) => Taken::Ended {
-            held: hold(&chunk[..n], line, held),
-            used: n + 1,
-        },
-        None => Taken::Unended {
-            held: hold(chunk, line, held),
-        },
-    }
 }
 
 // Adds one digit: None where the byte is none, or the value is not below 2^64.
