@@ -12,16 +12,13 @@ use Rattle.steps.specs.Call.{refused, count}
 use Rattle.steps.specs.Step.{write, over}
 use Rattle.links.specs.Route.{walk}
 use Rattle.links.proofs.Lists.{length_walk}
-use Rattle.multimap.proofs.Copies.{Copied, beyond, walk_way, copied_start, copied_more, copied_all, copied_long}
+use Rattle.multimap.proofs.Copies.{Copied, beyond, walk_way, copied_more, copied_all, copied_long}
 use Rattle.copying.specs.Slices.{along, writing}
 
 -- after i turns of n from the place s on: f of each place met is written, and the walk is at q
 pub record Copying {P : Type 0} (f : P → ℕ) (next : P → P) (s : P) (n : ℕ) (out₀ : List ℕ) (i : ℕ) (q : P) (out : List ℕ) : Type 0 where
   pub fits : n ≤ length out₀
   pub copied : Copied f (walk next s n) (beyond next s n) out₀ i q out
-
-pub none_copied : {P : Type 0} (f : P → ℕ) (next : P → P) (s : P) (n : ℕ) (out₀ : List ℕ) → n ≤ length out₀ → Copying f next s n out₀ 0 s out₀
-none_copied f next s n out₀ h = record { fits = h; copied = copied_start (walk_way next s n) f out₀ }
 
 module _ {P : Type 0} {f : P → ℕ} {next : P → P} {s : P} {n : ℕ} {out₀ : List ℕ} {i : ℕ} {q : P} {out : List ℕ} (t : Copying f next s n out₀ i q out) where
   places : length (walk next s n) ≡ n

@@ -2,17 +2,12 @@
 use Prim.Native.Nat.{ℕ}
 use mathlib.Core.Path.{ap, ◌∙◌}
 use lib.ListN.{get_or}
-use lib.Seq.{length-take-le}
-use native.Mathlib.Omega.{arith}
 use borrow.Author.Rules.{rules}
-use Rattle.copying.proofs.Copying.{none_copied, one_copied, all_copied, over_front, long, writing_none, writing_all}
+use Rattle.copying.proofs.Copying.{one_copied, all_copied, over_front, long, writing_none, writing_all}
 use Rattle.copying.proofs.copy.Goals as goal
 
 pub returns-then-out-end : goal.returns-then-out-end
 returns-then-out-end g c = writing_none _ _ _ c.args.n _ c.if-out-end.true
-
-pub loop-slot-init : goal.loop-slot-init
-loop-slot-init g c = none_copied _ _ _ c.args.n _ (omega (arith, length-take-le c.args.n c.args.out.now c.if-out-end.false))
 
 pub loop-slot-preserved : goal.loop-slot-preserved
 loop-slot-preserved g c =
