@@ -118,12 +118,11 @@ fn print_image(rt: &impl Print, map: &ListOrderedMultimap, s: &[u8]) -> io::Resu
         Ok(n) => print!(rt; " image {n}")?,
         Err(refusal) => print!(rt; " refused {}", refusal.number())?,
     }
-    let mut wrong: u64 = 0;
-    for (i, byte) in out.iter().enumerate() {
-        // past the image each byte is to stand as it stood
-        if *byte != *s.get(i).unwrap_or(&255) {
-            wrong += 1;
-        }
-    }
+    // Past the image each byte is to stand as it stood.
+    let wrong = out
+        .iter()
+        .enumerate()
+        .filter(|(i, byte)| **byte != *s.get(*i).unwrap_or(&255))
+        .count();
     println!(rt; " wrong {wrong}")
 }
