@@ -1,11 +1,7 @@
 -- What the last arm of a `match` is told of a number. Assumes nothing.
-use Prim.Native.Nat.{ℕ, zero, suc, ◌+◌, ◌≤◌, zero-le}
+use Prim.Native.Nat.{ℕ, zero, suc, ◌+◌, ◌≤◌}
 use mathlib.Core.Path.{◌≡◌}
-use mathlib.Core.List.{List}
 use native.Mathlib.Omega.{arith}
-use lib.ListN.{get_or, get_or-eq_default}
-use Rattle.steps.specs.Call.{none}
-use Rattle.steps.specs.Coded.{decoded}
 
 -- n is none of the j numbers from b on
 abbrev pub NoneFrom : ℕ → ℕ → ℕ → Type 0
@@ -18,7 +14,3 @@ at_least b n (suc j) l h = next (at_least b n j l h.0) h.1
   where
     next : b + j ≤ n → (n ≡ b + j → ⊥) → b + suc j ≤ n
     next m e = omega arith
-
-pub decoded_none : (l : List ℕ) → NoneFrom 0 (get_or l 0 0) 9 → none ≡ decoded l
-unfolding decoded
-decoded_none l h = let p : 9 ≤ get_or l 0 0 = at_least 0 (get_or l 0 0) 9 zero-le h in rw get_or-eq_default

@@ -104,6 +104,7 @@ impl IntoAnswer for () {
     }
 }
 
+// Stands apart from the one for `Option<Popped>`, since one for any `Option<T>` needs one for `u64`, by which any bare number would be a round.
 impl IntoAnswer for Option<u64> {
     ghost answer = { round_of };
 
@@ -138,6 +139,7 @@ impl IntoAnswer for Entry {
 }
 
 impl Refusal {
+    // Has a name, and is no `From`, since `u64::from(refusal)` doesn't say what the number is.
     pub fn number(self) -> u64
         ensures { result ≡ number_of self }
     {
@@ -157,6 +159,7 @@ pub fn tell<A: IntoAnswer>(numbers: &mut [u64; 4], outcome: Result<A, Refusal>)
 
 // Reads the answer of four numbers. A refusal is given by its number, since they may hold one that no call gives. Numbers of no answer are read as
 // `Nothing`.
+#[tactic(auto, unfolding(steps::specs::Coded::decoded))]
 pub fn read(numbers: [u64; 4]) -> Result<Answer, u64>
     ensures { numbered result ≡ decoded numbers }
 {
