@@ -18,6 +18,7 @@ pub struct EntryValues<'a> {
 }
 
 // Refers to the first `count` of a slice; to all of it where it is shorter.
+// Goes by `min`, since the check doesn't find alone that `get(..count).unwrap_or(slice)` is the same.
 pub fn filled_part(slice: &[u64], count: usize) -> &[u64]
     ensures { Filled slice.entry count result }
 {
