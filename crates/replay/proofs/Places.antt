@@ -12,40 +12,51 @@ use Rattle.multimap.specs.declared.ListOrderedMultimap.{ListOrderedMultimap}
 use Rattle.steps.specs.Told.{Told}
 use Rattle.steps.specs.Call.{call_of, lends, lends_two}
 use Rattle.turn.specs.Turned.{Turned, had}
-use Rattle.replay.specs.Place.{head_at, fits_head, Ready, Past, Within, rest, At, Onward, Ended}
+use Rattle.replay.specs.Place.{head_at, fits_head, Ready, Past, Within, rest, Same, At, AllRan, Onward, Ended}
 use Rattle.replay.specs.declared.Head.{Head}
 use Rattle.replay.specs.declared.Place.{Place}
+use Rattle.replay.specs.declared.Tape.{Tape}
+use Rattle.replay.specs.Tape.{Reached}
 use Rattle.replay.proofs.Tapes.{Fits, fits_says}
-use Rattle.replay.proofs.Running.{ended_short, ended_not, turn_on}
+use Rattle.replay.proofs.Running.{ended_short, ended_not, stops, turn_on}
 
-module _ (calls marks : List ℕ) (p : Place) (outs outs2 ans : List ℕ) (m : ListOrderedMultimap) where
-  stays : rest calls marks p outs outs2 ans ≡ [] → Ended calls marks p outs outs2 ans m outs outs2 ans m
-  stays r = record { none = r; outs_is = refl; outs2_is = refl; ans_is = refl; map_is = refl }
+same_on : {t₀ t t' : Tape} → Same t₀ t → Same t t' → Same t₀ t'
+same_on a b =
+    record {
+      calls = b.calls ∙ a.calls;
+      marks = b.marks ∙ a.marks;
+      outs = b.outs ∙ a.outs;
+      outs2 = b.outs2 ∙ a.outs2;
+      answers = b.answers ∙ a.answers;
+    }
 
-  pub stops_short : length calls - p.call < 7 → Ended calls marks p outs outs2 ans m outs outs2 ans m
-  stops_short h = stays (ended_short calls outs outs2 marks ans p.call p.out p.out2 p.mark p.answer h)
+module _ (p : Place) (t : Tape) (m : ListOrderedMultimap) where
+  stays : rest p t ≡ [] → Ended p t m t m
+  stays r = record { none = r; tape_is = refl; map_is = refl }
 
-  module _ (h : Head) (is : h ≡ head_at calls p.call) (inside : 7 ≤ length calls - p.call) (w : Within p calls outs outs2 marks ans) where
-    whole : p.call + 7 ≤ length calls
+  pub stops_short : length t.calls.now - p.call < 7 → Ended p t m t m
+  stops_short h = stays (ended_short t.calls.now t.outs.now t.outs2.now t.marks.now t.answers.now p.call p.out p.out2 p.mark p.answer h)
+
+  module _ (h : Head) (is : h ≡ head_at t.calls.now p.call) (inside : 7 ≤ length t.calls.now - p.call) (w : Within p t) where
+    whole : p.call + 7 ≤ length t.calls.now
     whole = omega arith
 
-    pub stops_not : fits_head h (length outs - p.out) (length outs2 - p.out2) (length marks - p.mark) (length ans - p.answer) ≡ false
-        → Ended calls marks p outs outs2 ans m outs outs2 ans m
-    stops_not f = stays (ended_not calls outs outs2 marks ans p.call p.out p.out2 p.mark p.answer whole (rw is at f))
+    pub stops_not : fits_head h (length t.outs.now - p.out) (length t.outs2.now - p.out2) (length t.marks.now - p.mark) (length t.answers.now - p.answer) ≡ false → Ended p t m t m
+    stops_not f = stays (ended_not t.calls.now t.outs.now t.outs2.now t.marks.now t.answers.now p.call p.out p.out2 p.mark p.answer whole (rw is at f))
 
-    module _ (f : fits_head h (length outs - p.out) (length outs2 - p.out2) (length marks - p.mark) (length ans - p.answer) ≡ true) where
-      pub room : Fits h.op h.n h.n2 h.n3 (length outs - p.out) (length outs2 - p.out2) (length marks - p.mark) (length ans - p.answer)
-      room = fits_says h.op h.n h.n2 h.n3 (length outs - p.out) (length outs2 - p.out2) (length marks - p.mark) (length ans - p.answer) f
+    module _ (f : fits_head h (length t.outs.now - p.out) (length t.outs2.now - p.out2) (length t.marks.now - p.mark) (length t.answers.now - p.answer) ≡ true) where
+      pub room : Fits h.op h.n h.n2 h.n3 (length t.outs.now - p.out) (length t.outs2.now - p.out2) (length t.marks.now - p.mark) (length t.answers.now - p.answer)
+      room = fits_says h.op h.n h.n2 h.n3 (length t.outs.now - p.out) (length t.outs2.now - p.out2) (length t.marks.now - p.mark) (length t.answers.now - p.answer) f
 
       -- n, n2, n3 and b are the lengths of the parts that are lent
       module _ (n n2 n3 b : ℕ) (n_is : n ≡ h.n) (n2_is : n2 ≡ h.n2) (n3_is : n3 ≡ h.n3) (b_is : b ≡ 4) where
-        part : length (take n (drop p.out outs)) ≡ n
-        part = length-take-le n (drop p.out outs) (omega (arith, length-drop p.out outs, room.n_in))
+        part : length (take n (drop p.out t.outs.now)) ≡ n
+        part = length-take-le n (drop p.out t.outs.now) (omega (arith, length-drop p.out t.outs.now, room.n_in))
 
-        part2 : length (take n2 (drop p.out2 outs2)) ≡ n2
-        part2 = length-take-le n2 (drop p.out2 outs2) (omega (arith, length-drop p.out2 outs2, room.n2_in))
+        part2 : length (take n2 (drop p.out2 t.outs2.now)) ≡ n2
+        part2 = length-take-le n2 (drop p.out2 t.outs2.now) (omega (arith, length-drop p.out2 t.outs2.now, room.n2_in))
 
-        pub ready : WellLinked m → Ready m h.op (take n (drop p.out outs)) (take n2 (drop p.out2 outs2)) × (length (take b (drop p.answer ans)) ≡ 4)
+        pub ready : WellLinked m → Ready m h.op (take n (drop p.out t.outs.now)) (take n2 (drop p.out2 t.outs2.now)) × (length (take b (drop p.answer t.answers.now)) ≡ 4)
         ready l = (
           record {
             linked = l;
@@ -53,15 +64,17 @@ module _ (calls marks : List ℕ) (p : Place) (outs outs2 ans : List ℕ) (m : L
             no_slice = λ e. part ∙ n_is ∙ room.no_slice e;
             no_second = λ e. part2 ∙ n2_is ∙ room.no_second e;
           },
-          length-take-le b (drop p.answer ans) (omega (arith, length-drop p.answer ans, room.space_in)) ∙ b_is,
+          length-take-le b (drop p.answer t.answers.now) (omega (arith, length-drop p.answer t.answers.now, room.space_in)) ∙ b_is,
         )
 
-        pub goes_on : (q : Place) (m' : ListOrderedMultimap) (o o2 k : List ℕ) → Past p h q → length o ≡ length (take n (drop p.out outs)) → length o2 ≡ length (take n2 (drop p.out2 outs2))
-            → Told linked (call_of h.op h.poster h.k h.v (take n (drop p.out outs)) (take n2 (drop p.out2 outs2)) (take n3 (drop p.mark marks))) m m' o o2 k
-            → Onward calls marks p outs outs2 ans m q (put_mid p.out n outs o) (put_mid p.out2 n2 outs2 o2) (put_mid p.answer b ans k) m'
-        goes_on q m' o o2 k past ol o2l t =
+        pub goes_on : (q : Place) (t' : Tape) (m' : ListOrderedMultimap) (o o2 k : List ℕ) → Past p h q → Same t t'
+            → t'.outs.now ≡ put_mid p.out n t.outs.now o → t'.outs2.now ≡ put_mid p.out2 n2 t.outs2.now o2 → t'.answers.now ≡ put_mid p.answer b t.answers.now k
+            → length o ≡ length (take n (drop p.out t.outs.now)) → length o2 ≡ length (take n2 (drop p.out2 t.outs2.now))
+            → Told linked (call_of h.op h.poster h.k h.v (take n (drop p.out t.outs.now)) (take n2 (drop p.out2 t.outs2.now)) (take n3 (drop p.mark t.marks.now))) m m' o o2 k
+            → Onward p t m q t' m'
+        goes_on q t' m' o o2 k past s outs_are outs2_are ans_are ol o2l told =
             record {
-              keeps = λ outs₀ outs2₀ ans₀ m₀ v. at_q outs₀ outs2₀ ans₀ m₀ v;
+              keeps = λ t₀ m₀ v. record { same = same_on v.same s; reached = at_q t₀ m₀ v };
               onward = omega (arith, past.call);
             }
           where
@@ -74,34 +87,54 @@ module _ (calls marks : List ℕ) (p : Place) (outs outs2 ans : List ℕ) (m : L
             mark_is : q.mark ≡ p.mark + n3
             mark_is = past.mark ∙ ap (λ (x : ℕ). p.mark + x) (sym n3_is)
 
-            at_q : (outs₀ outs2₀ ans₀ : List ℕ) (m₀ : ListOrderedMultimap) → At calls marks outs₀ outs2₀ ans₀ m₀ p outs outs2 ans m
-                → At calls marks outs₀ outs2₀ ans₀ m₀ q (put_mid p.out n outs o) (put_mid p.out2 n2 outs2 o2) (put_mid p.answer b ans k) m'
-            at_q outs₀ outs2₀ ans₀ m₀ v =
-                rw (past.call, out_is, out2_is, mark_is, past.answer, past.ran, b_is)
-                (turn_on linked calls outs₀ outs2₀ marks ans₀ m₀ outs outs2 ans m p.call p.out p.out2 p.mark p.answer p.ran v m' n n2 n3 o o2 k
+            at_q : (t₀ : Tape) (m₀ : ListOrderedMultimap) → At t₀ m₀ p t m
+                → Reached linked t₀.calls.now t₀.outs.now t₀.outs2.now t₀.marks.now t₀.answers.now m₀ t'.outs.now t'.outs2.now t'.answers.now m' q.call q.out q.out2 q.mark q.answer q.ran
+            at_q t₀ m₀ v =
+                rw (past.call, out_is, out2_is, mark_is, past.answer, past.ran, outs_are, outs2_are, ans_are, b_is, ← v.same.calls, ← v.same.marks)
+                (turn_on linked t.calls.now t₀.outs.now t₀.outs2.now t.marks.now t₀.answers.now m₀ t.outs.now t.outs2.now t.answers.now m p.call p.out p.out2 p.mark p.answer p.ran
+                (rw (← v.same.calls, ← v.same.marks) at v.reached) m' n n2 n3 o o2 k
                 (sym (ap (λ (x : Head). x.n) is) ∙ sym n_is) (sym (ap (λ (x : Head). x.n2) is) ∙ sym n2_is) (sym (ap (λ (x : Head). x.n3) is) ∙ sym n3_is)
-                whole (rw (← n_is, ← n2_is, ← n3_is, is) at f) (ol ∙ part) (o2l ∙ part2) (rw is at t))
+                whole (rw (← n_is, ← n2_is, ← n3_is, is) at f) (ol ∙ part) (o2l ∙ part2) (rw is at told))
 
 -- where a run stands is within its slices
-pub at_within : (calls marks outs₀ outs2₀ ans₀ : List ℕ) (m₀ : ListOrderedMultimap) (p : Place) (outs outs2 ans : List ℕ) (m : ListOrderedMultimap) → At calls marks outs₀ outs2₀ ans₀ m₀ p outs outs2 ans m
-    → Within p calls outs outs2 marks ans
-at_within calls marks outs₀ outs2₀ ans₀ m₀ p outs outs2 ans m v =
-    record { call = v.i_in; out = v.at_in; out2 = v.at2_in; mark = v.at3_in; answer = v.a_in; ran = v.ran_is }
+pub at_within : {t₀ : Tape} {m₀ : ListOrderedMultimap} {p : Place} {t : Tape} {m : ListOrderedMultimap} → At t₀ m₀ p t m → Within p t
+at_within v =
+    let r = v.reached in
+    record { call = rw v.same.calls r.i_in; out = r.at_in; out2 = r.at2_in; mark = rw v.same.marks r.at3_in; answer = r.a_in; ran = r.ran_is }
+
+-- a call that was made leaves fewer to come
+pub nearer : {t₀ : Tape} {m₀ : ListOrderedMultimap} {p : Place} {t : Tape} {m : ListOrderedMultimap} {q : Place} {t' : Tape} {m' : ListOrderedMultimap}
+    → At t₀ m₀ p t m → Onward p t m q t' m' → length t'.calls.now - q.call < length t.calls.now - p.call
+nearer {t₀} {m₀} {p} {t} {m} {q} {t'} v o =
+    let u = o.keeps t₀ m₀ v in
+    let e : length t'.calls.now ≡ length t.calls.now = ap length (u.same.calls ∙ sym v.same.calls) in
+    let h : q.call ≤ length t'.calls.now = rw u.same.calls u.reached.i_in in
+    omega (arith, o.onward)
+
+-- where the list does not go on, the run is at its end
+pub all_ran : {t₀ : Tape} {m₀ : ListOrderedMultimap} {p : Place} {t : Tape} {m : ListOrderedMultimap} → At t₀ m₀ p t m → rest p t ≡ [] → AllRan t₀ m₀ t m p.ran
+all_ran {t₀} {m₀} {p} {t} {m} v none =
+    record {
+      same = v.same;
+      ran =
+          stops linked t₀.calls.now t₀.outs.now t₀.outs2.now t₀.marks.now t₀.answers.now m₀ t.outs.now t.outs2.now t.answers.now m p.call p.out p.out2 p.mark p.answer p.ran v.reached
+          (rw (← v.same.calls, ← v.same.marks) none);
+    }
 
 -- the slices reach as far as the place past a call that fits, and the sums that lead there are numbers of 64 bits
-pub record Reach (p : Place) (h : Head) (q : Place) (calls outs outs2 marks ans : List ℕ) : Type 0 where
-  pub call : p.call + 7 ≤ length calls
-  pub out : (p.out ≤ q.out) × (q.out ≤ length outs)
-  pub out2 : (p.out2 ≤ q.out2) × (q.out2 ≤ length outs2)
-  pub mark : (p.mark ≤ q.mark) × (q.mark ≤ length marks)
-  pub answer : (p.answer ≤ q.answer) × (q.answer ≤ length ans)
+pub record Reach (p : Place) (h : Head) (q : Place) (t : Tape) : Type 0 where
+  pub call : p.call + 7 ≤ length t.calls.now
+  pub out : (p.out ≤ q.out) × (q.out ≤ length t.outs.now)
+  pub out2 : (p.out2 ≤ q.out2) × (q.out2 ≤ length t.outs2.now)
+  pub mark : (p.mark ≤ q.mark) × (q.mark ≤ length t.marks.now)
+  pub answer : (p.answer ≤ q.answer) × (q.answer ≤ length t.answers.now)
 
-pub reach : {p : Place} {h : Head} {q : Place} {calls outs outs2 marks ans : List ℕ} → Within p calls outs outs2 marks ans → 7 ≤ length calls - p.call
-    → fits_head h (length outs - p.out) (length outs2 - p.out2) (length marks - p.mark) (length ans - p.answer) ≡ true → Past p h q
-    → Reach p h q calls outs outs2 marks ans
-reach {p} {h} {q} {calls} {outs} {outs2} {marks} {ans} w l f past =
-    let fit : Fits h.op h.n h.n2 h.n3 (length outs - p.out) (length outs2 - p.out2) (length marks - p.mark) (length ans - p.answer) =
-    fits_says h.op h.n h.n2 h.n3 (length outs - p.out) (length outs2 - p.out2) (length marks - p.mark) (length ans - p.answer) f in
+pub reach : {p : Place} {h : Head} {q : Place} {t : Tape} → Within p t → 7 ≤ length t.calls.now - p.call
+    → fits_head h (length t.outs.now - p.out) (length t.outs2.now - p.out2) (length t.marks.now - p.mark) (length t.answers.now - p.answer) ≡ true → Past p h q
+    → Reach p h q t
+reach {p} {h} {q} {t} w l f past =
+    let fit : Fits h.op h.n h.n2 h.n3 (length t.outs.now - p.out) (length t.outs2.now - p.out2) (length t.marks.now - p.mark) (length t.answers.now - p.answer) =
+    fits_says h.op h.n h.n2 h.n3 (length t.outs.now - p.out) (length t.outs2.now - p.out2) (length t.marks.now - p.mark) (length t.answers.now - p.answer) f in
     record {
       call = omega (arith, w, l);
       out = omega (arith, w, fit, past);

@@ -3,9 +3,10 @@ use Rattle.std.specs.Prelude.{◌≡◌, Bool, false, List, [], ℕ, Option, Som
 use Rattle.steps.specs.Call.{Call, lends, lends_two}
 use Rattle.multimap.specs.WellLinked.{WellLinked, linked}
 use Rattle.multimap.specs.declared.ListOrderedMultimap.{ListOrderedMultimap}
-use Rattle.replay.specs.Tape.{known, fits, decode, Reached}
+use Rattle.replay.specs.Tape.{known, fits, decode, Ran, Reached}
 use Rattle.replay.specs.declared.Head.{Head}
 use Rattle.replay.specs.declared.Place.{Place}
+use Rattle.replay.specs.declared.Tape.{Tape}
 
 -- The seven numbers from i on.
 abbrev pub head_at : List ℕ → ℕ → Head
@@ -52,38 +53,49 @@ pub record Past (p : Place) (h : Head) (q : Place) : Type 0 where
   pub ran : q.ran ≡ p.ran + 1
 
 -- p stands within the slices, and has passed as many answers as calls.
-pub record Within (p : Place) (calls outs outs2 marks ans : List ℕ) : Type 0 where
-  pub call : p.call ≤ length calls
-  pub out : p.out ≤ length outs
-  pub out2 : p.out2 ≤ length outs2
-  pub mark : p.mark ≤ length marks
-  pub answer : p.answer ≤ length ans
+pub record Within (p : Place) (t : Tape) : Type 0 where
+  pub call : p.call ≤ length t.calls.now
+  pub out : p.out ≤ length t.outs.now
+  pub out2 : p.out2 ≤ length t.outs2.now
+  pub mark : p.mark ≤ length t.marks.now
+  pub answer : p.answer ≤ length t.answers.now
   pub ran : 4 * p.ran ≡ p.answer
 
-module _ (calls marks : List ℕ) where
-  -- The calls that the slices hold from p on.
-  abbrev pub rest : Place → List ℕ → List ℕ → List ℕ → List Call
-  rest p outs outs2 ans = decode (drop p.call calls) (drop p.out outs) (drop p.out2 outs2) (drop p.mark marks) (length (drop p.answer ans))
+-- The calls that the slices hold from p on.
+abbrev pub rest : Place → Tape → List Call
+rest p t =
+    decode (drop p.call t.calls.now) (drop p.out t.outs.now) (drop p.out2 t.outs2.now) (drop p.mark t.marks.now) (length (drop p.answer t.answers.now))
 
-  -- A run that began with m₀ and these slices stands at p with m and those.
-  abbrev pub At : List ℕ → List ℕ → List ℕ → ListOrderedMultimap → Place → List ℕ → List ℕ → List ℕ → ListOrderedMultimap → Type 0
-  At outs₀ outs2₀ ans₀ m₀ p outs outs2 ans m =
-      Reached linked calls outs₀ outs2₀ marks ans₀ m₀ outs outs2 ans m p.call p.out p.out2 p.mark p.answer p.ran
+-- The same slices: nothing is written to the calls and the marks.
+pub record Same (t₀ t : Tape) : Type 0 where
+  pub calls : t.calls.now ≡ t₀.calls.now
+  pub marks : t.marks.now ≡ t₀.marks.now
+  pub outs : t.outs.ghost_name ≡ t₀.outs.ghost_name
+  pub outs2 : t.outs2.ghost_name ≡ t₀.outs2.ghost_name
+  pub answers : t.answers.ghost_name ≡ t₀.answers.ghost_name
 
-  -- A call was made, from p to q: every run that stands at p stands at q now.
-  pub record Onward (p : Place) (outs outs2 ans : List ℕ) (m : ListOrderedMultimap) (q : Place) (outs' outs2' ans' : List ℕ) (m' : ListOrderedMultimap) : Type 0 where
-    pub keeps : (outs₀ outs2₀ ans₀ : List ℕ) (m₀ : ListOrderedMultimap) → At outs₀ outs2₀ ans₀ m₀ p outs outs2 ans m → At outs₀ outs2₀ ans₀ m₀ q outs' outs2' ans' m'
-    pub onward : p.call + 7 ≤ q.call
+-- All calls that the slices hold were run, from m₀ to m, and they are n.
+pub record AllRan (t₀ : Tape) (m₀ : ListOrderedMultimap) (t : Tape) (m : ListOrderedMultimap) (n : ℕ) : Type 0 where
+  pub same : Same t₀ t
+  pub ran : Ran linked t₀.calls.now t₀.outs.now t₀.outs2.now t₀.marks.now t₀.answers.now m₀ t.outs.now t.outs2.now t.answers.now m n
 
-  -- The list does not go on, and nothing is changed.
-  pub record Ended (p : Place) (outs outs2 ans : List ℕ) (m : ListOrderedMultimap) (outs' outs2' ans' : List ℕ) (m' : ListOrderedMultimap) : Type 0 where
-    pub none : rest p outs outs2 ans ≡ []
-    pub outs_is : outs' ≡ outs
-    pub outs2_is : outs2' ≡ outs2
-    pub ans_is : ans' ≡ ans
-    pub map_is : m' ≡ m
+-- A run that began with t₀ and m₀ stands at p with t and m.
+pub record At (t₀ : Tape) (m₀ : ListOrderedMultimap) (p : Place) (t : Tape) (m : ListOrderedMultimap) : Type 0 where
+  pub same : Same t₀ t
+  pub reached : Reached linked t₀.calls.now t₀.outs.now t₀.outs2.now t₀.marks.now t₀.answers.now m₀ t.outs.now t.outs2.now t.answers.now m p.call p.out p.out2 p.mark p.answer p.ran
 
-  -- Either a call was made, and q is past it, or the list does not go on.
-  abbrev pub Advanced : Place → List ℕ → List ℕ → List ℕ → ListOrderedMultimap → Option Place → List ℕ → List ℕ → List ℕ → ListOrderedMultimap → Type 0
-  Advanced p outs outs2 ans m (Some q) outs' outs2' ans' m' = Onward p outs outs2 ans m q outs' outs2' ans' m'
-  Advanced p outs outs2 ans m None outs' outs2' ans' m' = Ended p outs outs2 ans m outs' outs2' ans' m'
+-- A call was made, from p to q: every run that stands at p stands at q now.
+pub record Onward (p : Place) (t : Tape) (m : ListOrderedMultimap) (q : Place) (t' : Tape) (m' : ListOrderedMultimap) : Type 0 where
+  pub keeps : (t₀ : Tape) (m₀ : ListOrderedMultimap) → At t₀ m₀ p t m → At t₀ m₀ q t' m'
+  pub onward : p.call + 7 ≤ q.call
+
+-- The list does not go on, and nothing is changed.
+pub record Ended (p : Place) (t : Tape) (m : ListOrderedMultimap) (t' : Tape) (m' : ListOrderedMultimap) : Type 0 where
+  pub none : rest p t ≡ []
+  pub tape_is : t' ≡ t
+  pub map_is : m' ≡ m
+
+-- Either a call was made, and q is past it, or the list does not go on.
+abbrev pub Advanced : Place → Tape → ListOrderedMultimap → Option Place → Tape → ListOrderedMultimap → Type 0
+Advanced p t m (Some q) t' m' = Onward p t m q t' m'
+Advanced p t m None t' m' = Ended p t m t' m'

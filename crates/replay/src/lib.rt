@@ -8,8 +8,7 @@ ghost use Rattle.steps.specs.Call.{call_of, lends as lends_of};
 ghost use Rattle.steps.specs.Told.{Told};
 ghost use Rattle.multimap.specs.declared.ListOrderedMultimap.{ListOrderedMultimap};
 ghost use Rattle.multimap.specs.WellLinked.{WellLinked, linked};
-ghost use Rattle.replay.specs.Tape.{Ran};
-ghost use Rattle.replay.specs.Place.{head_at, known_head, fits_head, Ready, Small, Past, Within, Advanced};
+ghost use Rattle.replay.specs.Place.{head_at, known_head, fits_head, Ready, Small, Past, Within, AllRan, Advanced};
 ghost use Rattle.replay.specs.Played.{Played};
 
 use multimap::ListOrderedMultimap;
@@ -28,7 +27,24 @@ pub fn replay(
     ensures { (m : ListOrderedMultimap) × Played (limit members_limit rounds_limit) calls.now outs.old outs2.old marks.now answers.old outs.new outs2.new answers.new m result }
 {
     let mut map = multimap::new(members_limit, rounds_limit);
-    run(&mut map, calls, outs, outs2, marks, answers)
+    let mut tape = Tape {
+        calls,
+        outs,
+        outs2,
+        marks,
+        answers,
+    };
+    tape.run(&mut map)
+}
+
+// The slices of a list of calls, and room for its answers.
+#[derive(Drop)]
+struct Tape<'a> {
+    calls: &'a [u64],
+    outs: &'a mut [u64],
+    outs2: &'a mut [u64],
+    marks: &'a [u8],
+    answers: &'a mut [u64],
 }
 
 // The seven numbers of a call: which it is, its poster, its arguments, and the lengths of its out slice, its second one and its marks.
@@ -105,66 +121,53 @@ fn after(p: Place, h: Head) -> Place
     }
 }
 
-// Runs all calls, one after the other, until the list does not go on.
-fn run(
-    map: &mut ListOrderedMultimap,
-    calls: &[u64],
-    outs: &mut [u64],
-    outs2: &mut [u64],
-    marks: &[u8],
-    answers: &mut [u64],
-) -> u64
-    requires { WellLinked map.old }
-    ensures { Ran linked calls.now outs.old outs2.old marks.now answers.old map.old outs.new outs2.new answers.new map.new result }
-{
-    let mut p = Place {
-        call: 0,
-        out: 0,
-        out2: 0,
-        mark: 0,
-        answer: 0,
-        ran: 0,
-    };
-    while let Some(next) = advance(map, p, calls, outs, outs2, marks, answers) {
-        p = next;
+impl Tape<'_> {
+    // Runs all calls, one after the other, until the list does not go on.
+    fn run(&mut self, map: &mut ListOrderedMultimap) -> u64
+        requires { WellLinked map.old }
+        ensures { AllRan self.old map.old self.new map.new result }
+    {
+        let mut p = Place {
+            call: 0,
+            out: 0,
+            out2: 0,
+            mark: 0,
+            answer: 0,
+            ran: 0,
+        };
+        while let Some(next) = self.advance(map, p) {
+            p = next;
+        }
+        p.ran
     }
-    p.ran
-}
 
-// Makes the next call, where the list goes on with one, and gives the place after it.
-fn advance(
-    map: &mut ListOrderedMultimap,
-    p: Place,
-    calls: &[u64],
-    outs: &mut [u64],
-    outs2: &mut [u64],
-    marks: &[u8],
-    answers: &mut [u64],
-) -> Option<Place>
-    requires { WellLinked map.old × Within p calls.now outs.old outs2.old marks.now answers.old }
-    ensures { Advanced calls.now marks.now p outs.old outs2.old answers.old map.old result outs.new outs2.new answers.new map.new }
-{
-    if calls.len() - p.call < 7 {
-        return None;
+    // Makes the next call, where the list goes on with one, and gives the place after it.
+    fn advance(&mut self, map: &mut ListOrderedMultimap, p: Place) -> Option<Place>
+        requires { WellLinked map.old × Within p self.old }
+        ensures { Advanced p self.old map.old result self.new map.new }
+    {
+        if self.calls.len() - p.call < 7 {
+            return None;
+        }
+        let h = read_head(self.calls, p.call);
+        let room = (self.outs.len() - p.out) as u64;
+        let room2 = (self.outs2.len() - p.out2) as u64;
+        let room3 = (self.marks.len() - p.mark) as u64;
+        let space = (self.answers.len() - p.answer) as u64;
+        if !fits(h, room, room2, room3, space) {
+            return None;
+        }
+        let q = after(p, h);
+        turn(
+            map,
+            h,
+            &mut self.outs[p.out..q.out],
+            &mut self.outs2[p.out2..q.out2],
+            &self.marks[p.mark..q.mark],
+            &mut self.answers[p.answer..q.answer],
+        );
+        Some(q)
     }
-    let h = read_head(calls, p.call);
-    let room = (outs.len() - p.out) as u64;
-    let room2 = (outs2.len() - p.out2) as u64;
-    let room3 = (marks.len() - p.mark) as u64;
-    let space = (answers.len() - p.answer) as u64;
-    if !fits(h, room, room2, room3, space) {
-        return None;
-    }
-    let q = after(p, h);
-    turn(
-        map,
-        h,
-        &mut outs[p.out..q.out],
-        &mut outs2[p.out2..q.out2],
-        &marks[p.mark..q.mark],
-        &mut answers[p.answer..q.answer],
-    );
-    Some(q)
 }
 
 // Makes one call, with its answer's numbers in a slice of four.

@@ -1,6 +1,11 @@
 -- `replay::replay` meets its contract: demand 3 holds of every list of calls from a new map. Assumes nothing.
+use Rattle.std.proofs.Common.{rules}
 use Rattle.replay.proofs.Tapes.{played}
 use Rattle.replay.proofs.replay.Goals as goal
 
 pub returns : goal.returns
-returns c = (_, played _ _ _ _ _ _ _ _ _ _ _ _ c.run.ensures c.new-map.ensures.0 c.new-map.ensures.1)
+returns c =
+    let r = c.run.ensures.ran in
+    let s = c.run.ensures.same in
+    let k = played _ _ _ _ _ _ _ _ _ _ _ _ r c.new-map.ensures.0 c.new-map.ensures.1 in
+    search rules

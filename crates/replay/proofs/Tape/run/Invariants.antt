@@ -1,11 +1,11 @@
 use Prim.Native.Nat.{◌-◌}
 use lib.ListN.{length}
 use Rattle.replay.specs.Place.{At}
-use Rattle.replay.proofs.run.Given as goal
+use Rattle.replay.proofs.Tape.run.Given as goal
 
 abbrev pub invariant-loop-next : goal.invariant-loop-next
 invariant-loop-next l =
-    At l.calls l.marks l.initial.outs l.initial.outs2 l.initial.answers l.initial.map l.p l.outs l.outs2 l.answers l.map
+    At l.initial.self l.initial.map l.p l.self l.map
 
 abbrev pub decreases-loop-next : goal.decreases-loop-next
-decreases-loop-next l = length l.calls - l.p.call
+decreases-loop-next l = length l.self.calls.now - l.p.call
