@@ -6,6 +6,8 @@
 pub mod occupied_entry;
 pub mod vacant_entry;
 
+ghost use Rattle.std.specs.Prelude.{◌≡◌};
+ghost use Rattle.std.specs.Fn.{FnOnceReturnsAtMut};
 ghost use Rattle.steps.specs.State.{limit};
 ghost use Rattle.steps.specs.Call.{lend};
 ghost use Rattle.steps.specs.Call as C;
@@ -47,9 +49,7 @@ pub fn new(members: u64, rounds: u64) -> Reply<Result<(), Refusal>>
 pub fn append(m: ListOrderedMultimap, poster: u64, k: u64, v: u64) -> Reply<Result<bool, Refusal>>
     ensures { Calls (C.append poster k v) m (say (answered C.present result.answer)) result.map }
 {
-    let mut map = m;
-    let answer = adding::append(&mut map, poster, k, v);
-    Reply { map, answer }
+    by_value(m, |map| adding::append(map, poster, k, v))
 }
 
 // Puts a round v in the place of the member's record, whose first round is the answer.
@@ -61,9 +61,7 @@ pub fn insert(
 ) -> Reply<Result<Option<u64>, Refusal>>
     ensures { Calls (C.insert poster k v) m (say (answered round_of result.answer)) result.map }
 {
-    let mut map = m;
-    let answer = inserting::insert(&mut map, poster, k, v);
-    Reply { map, answer }
+    by_value(m, |map| inserting::insert(map, poster, k, v))
 }
 
 // Puts a round v in the place of the member's record, which is written to the front of `out`.
@@ -85,9 +83,7 @@ pub fn insert_all(
 pub fn remove(m: ListOrderedMultimap, k: u64) -> Reply<Option<u64>>
     ensures { Calls (C.remove k) m (say (round_of result.answer)) result.map }
 {
-    let mut map = m;
-    let answer = removing::remove(&mut map, k);
-    Reply { map, answer }
+    by_value(m, |map| removing::remove(map, k))
 }
 
 // Makes the member leave with its record, which is written to the front of `out`.
@@ -110,26 +106,20 @@ pub fn entry(m: ListOrderedMultimap, k: u64) -> Reply<Entry>
 pub fn pop_front(m: ListOrderedMultimap) -> Reply<Option<Popped>>
     ensures { Calls C.pop_front m (say (popped_of result.answer)) result.map }
 {
-    let mut map = m;
-    let answer = popping::pop_front(&mut map);
-    Reply { map, answer }
+    by_value(m, popping::pop_front)
 }
 
 pub fn pop_back(m: ListOrderedMultimap) -> Reply<Option<Popped>>
     ensures { Calls C.pop_back m (say (popped_of result.answer)) result.map }
 {
-    let mut map = m;
-    let answer = popping_back::pop_back(&mut map);
-    Reply { map, answer }
+    by_value(m, popping_back::pop_back)
 }
 
 // Keeps the pairs with mark 1 and drops those with mark 0.
 pub fn retain(m: ListOrderedMultimap, marks: &[u8]) -> Reply<Result<usize, Refusal>>
     ensures { Calls (C.retain marks.now) m (say (answered C.count result.answer)) result.map }
 {
-    let mut map = m;
-    let answer = retaining::retain(&mut map, marks);
-    Reply { map, answer }
+    by_value(m, |map| retaining::retain(map, marks))
 }
 
 // Moves the i-th pair to round place i and the i-th member to member place i.
@@ -137,17 +127,13 @@ pub fn pack_to(m: ListOrderedMultimap, members: u64, rounds: u64) -> Reply<Resul
     requires { WellLinked m }
     ensures { Does linked (C.pack_to members rounds) m (say (answered done_of result.answer)) result.map }
 {
-    let mut map = m;
-    let answer = packing::pack_to(&mut map, members, rounds);
-    Reply { map, answer }
+    by_value(m, |map| packing::pack_to(map, members, rounds))
 }
 
 pub fn clear(m: ListOrderedMultimap) -> Reply<()>
     ensures { Calls C.clear m (say C.done) result.map }
 {
-    let mut map = m;
-    packing::clear(&mut map);
-    Reply { map, answer: () }
+    by_value(m, packing::clear)
 }
 
 // Reads the member's first round.
@@ -238,5 +224,19 @@ pub fn call(
 {
     let mut map = m;
     let answer = turn::call(&mut map, op, poster, k, v, out, out2, marks);
+    Reply { map, answer }
+}
+
+// Makes one call on the map that came, and hands it back beside the answer. A call that is lent a slice to write to goes without it, since nothing is
+// known of what a closure has written to such a slice.
+fn by_value<A, F: FnOnce(&mut ListOrderedMultimap) -> A>(
+    m: ListOrderedMultimap,
+    call: F,
+) -> Reply<A>
+    requires { (r : _) → r.now ≡ m → F.pre call r }
+    ensures { FnOnceReturnsAtMut F.FnOnce call m result.answer result.map }
+{
+    let mut map = m;
+    let answer = call(&mut map);
     Reply { map, answer }
 }

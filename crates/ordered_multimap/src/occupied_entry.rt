@@ -4,15 +4,13 @@ ghost use Rattle.steps.specs.Step.{say};
 ghost use Rattle.multimap.specs.WellLinked.{Calls};
 ghost use Rattle.answers.specs.Answers.{answered, done_of, round_of};
 
-use super::{ListOrderedMultimap, Reply};
+use super::{ListOrderedMultimap, Reply, by_value};
 use answers::Refusal;
 
 pub fn append(m: ListOrderedMultimap, poster: u64, k: u64, v: u64) -> Reply<Result<(), Refusal>>
     ensures { Calls (C.occupied_append poster k v) m (say (answered done_of result.answer)) result.map }
 {
-    let mut map = m;
-    let answer = entries::occupied_append(&mut map, poster, k, v);
-    Reply { map, answer }
+    by_value(m, |map| entries::occupied_append(map, poster, k, v))
 }
 
 pub fn insert(
@@ -23,15 +21,11 @@ pub fn insert(
 ) -> Reply<Result<Option<u64>, Refusal>>
     ensures { Calls (C.occupied_insert poster k v) m (say (answered round_of result.answer)) result.map }
 {
-    let mut map = m;
-    let answer = entries::occupied_insert(&mut map, poster, k, v);
-    Reply { map, answer }
+    by_value(m, |map| entries::occupied_insert(map, poster, k, v))
 }
 
 pub fn remove_entry(m: ListOrderedMultimap, k: u64) -> Reply<Result<Option<u64>, Refusal>>
     ensures { Calls (C.occupied_remove_entry k) m (say (answered round_of result.answer)) result.map }
 {
-    let mut map = m;
-    let answer = entries::occupied_remove_entry(&mut map, k);
-    Reply { map, answer }
+    by_value(m, |map| entries::occupied_remove_entry(map, k))
 }

@@ -4,13 +4,11 @@ ghost use Rattle.steps.specs.Step.{say};
 ghost use Rattle.multimap.specs.WellLinked.{Calls};
 ghost use Rattle.answers.specs.Answers.{answered, done_of};
 
-use super::{ListOrderedMultimap, Reply};
+use super::{ListOrderedMultimap, Reply, by_value};
 use answers::Refusal;
 
 pub fn insert(m: ListOrderedMultimap, poster: u64, k: u64, v: u64) -> Reply<Result<(), Refusal>>
     ensures { Calls (C.vacant_insert poster k v) m (say (answered done_of result.answer)) result.map }
 {
-    let mut map = m;
-    let answer = entries::vacant_insert(&mut map, poster, k, v);
-    Reply { map, answer }
+    by_value(m, |map| entries::vacant_insert(map, poster, k, v))
 }
