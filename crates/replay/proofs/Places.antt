@@ -2,23 +2,25 @@
 use mathlib.Core.Path.{◌≡◌, refl, ap, sym, ◌∙◌, subst}
 use mathlib.Core.Bool.{Bool, true, false}
 use mathlib.Core.List.{List, [], ◌∷◌}
+use Rattle.std.specs.Prelude.{Some, None}
 use Prim.Native.Nat.{ℕ, ◌+◌, ◌-◌, ◌≤◌, ◌<◌}
 use native.Mathlib.Omega.{arith}
 use lib.ListN.{length, take, drop, length-drop}
-use lib.Seq.{length-take-le}
+use Rattle.std.proofs.lemmas.List.{take_all}
+use lib.Seq.{drop-drop, length-take-le}
 use borrow.Rule.Slice.PartMut.{put_mid}
 use Rattle.multimap.specs.WellLinked.{WellLinked, linked}
 use Rattle.multimap.specs.declared.ListOrderedMultimap.{ListOrderedMultimap}
 use Rattle.steps.specs.Told.{Told}
 use Rattle.steps.specs.Call.{call_of, lends, lends_two}
 use Rattle.turn.specs.Turned.{Turned, had}
-use Rattle.replay.specs.Place.{head_at, fits_head, Ready, Past, Within, rest, Same, At, AllRan, Onward, Ended}
+use Rattle.replay.specs.Place.{head_of, fits_head, Ready, Past, Within, rest, Same, At, AllRan, Onward, Ended}
 use Rattle.replay.specs.declared.Head.{Head}
 use Rattle.replay.specs.declared.Place.{Place}
 use Rattle.replay.specs.declared.Tape.{Tape}
 use Rattle.replay.specs.Tape.{Reached}
-use Rattle.replay.proofs.Tapes.{Fits, fits_says}
-use Rattle.replay.proofs.Running.{ended_short, ended_not, stops, turn_on}
+use Rattle.replay.proofs.Tapes.{Fits, fits_says, decode_none, head_says}
+use Rattle.replay.proofs.Running.{ended_not, stops, turn_on}
 
 same_on : {t₀ t t' : Tape} → Same t₀ t → Same t t' → Same t₀ t'
 same_on a b =
@@ -30,19 +32,31 @@ same_on a b =
       answers = b.answers ∙ a.answers;
     }
 
+-- the part of a slice from i on, as it is lent
+abbrev ahead : ℕ → List ℕ → List ℕ
+ahead i l = take (length l - i) (drop i l)
+
+ahead_is : (i : ℕ) (l : List ℕ) → ahead i l ≡ drop i l
+ahead_is i l = take_all (length l - i) (drop i l) (omega (arith, length-drop i l))
+
 module _ (p : Place) (t : Tape) (m : ListOrderedMultimap) where
   stays : rest p t ≡ [] → Ended p t m t m
   stays r = record { none = r; tape_is = refl; map_is = refl }
 
-  pub stops_short : length t.calls.now - p.call < 7 → Ended p t m t m
-  stops_short h = stays (ended_short t.calls.now t.outs.now t.outs2.now t.marks.now t.answers.now p.call p.out p.out2 p.mark p.answer h)
+  pub stops_short : None ≡ head_of (ahead p.call t.calls.now) → Ended p t m t m
+  stops_short e =
+      stays
+      (decode_none (drop p.call t.calls.now) (drop p.out t.outs.now) (drop p.out2 t.outs2.now) (drop p.mark t.marks.now) (length (drop p.answer t.answers.now))
+      (sym (rw (ahead_is p.call t.calls.now) at e)))
 
-  module _ (h : Head) (is : h ≡ head_at t.calls.now p.call) (inside : 7 ≤ length t.calls.now - p.call) (w : Within p t) where
-    whole : p.call + 7 ≤ length t.calls.now
-    whole = omega arith
+  module _ (h : Head) (is : Some h ≡ head_of (ahead p.call t.calls.now)) where
+    numbers : drop p.call t.calls.now ≡ h.op ∷ h.poster ∷ h.k ∷ h.v ∷ h.n ∷ h.n2 ∷ h.n3 ∷ drop (p.call + 7) t.calls.now
+    numbers =
+        head_says (drop p.call t.calls.now) h (sym (rw (ahead_is p.call t.calls.now) at is))
+        ∙ ap (λ (l : List ℕ). h.op ∷ h.poster ∷ h.k ∷ h.v ∷ h.n ∷ h.n2 ∷ h.n3 ∷ l) (drop-drop 7 p.call t.calls.now)
 
     pub stops_not : fits_head h (length t.outs.now - p.out) (length t.outs2.now - p.out2) (length t.marks.now - p.mark) (length t.answers.now - p.answer) ≡ false → Ended p t m t m
-    stops_not f = stays (ended_not t.calls.now t.outs.now t.outs2.now t.marks.now t.answers.now p.call p.out p.out2 p.mark p.answer whole (rw is at f))
+    stops_not f = stays (ended_not t.calls.now t.outs.now t.outs2.now t.marks.now t.answers.now p.call p.out p.out2 p.mark p.answer h.op h.poster h.k h.v h.n h.n2 h.n3 (drop (p.call + 7) t.calls.now) numbers f)
 
     module _ (f : fits_head h (length t.outs.now - p.out) (length t.outs2.now - p.out2) (length t.marks.now - p.mark) (length t.answers.now - p.answer) ≡ true) where
       pub room : Fits h.op h.n h.n2 h.n3 (length t.outs.now - p.out) (length t.outs2.now - p.out2) (length t.marks.now - p.mark) (length t.answers.now - p.answer)
@@ -92,9 +106,8 @@ module _ (p : Place) (t : Tape) (m : ListOrderedMultimap) where
             at_q t₀ m₀ v =
                 rw (past.call, out_is, out2_is, mark_is, past.answer, past.ran, outs_are, outs2_are, ans_are, b_is, ← v.same.calls, ← v.same.marks)
                 (turn_on linked t.calls.now t₀.outs.now t₀.outs2.now t.marks.now t₀.answers.now m₀ t.outs.now t.outs2.now t.answers.now m p.call p.out p.out2 p.mark p.answer p.ran
-                (rw (← v.same.calls, ← v.same.marks) at v.reached) m' n n2 n3 o o2 k
-                (sym (ap (λ (x : Head). x.n) is) ∙ sym n_is) (sym (ap (λ (x : Head). x.n2) is) ∙ sym n2_is) (sym (ap (λ (x : Head). x.n3) is) ∙ sym n3_is)
-                whole (rw (← n_is, ← n2_is, ← n3_is, is) at f) (ol ∙ part) (o2l ∙ part2) (rw is at told))
+                (rw (← v.same.calls, ← v.same.marks) at v.reached) m' h.op h.poster h.k h.v n n2 n3 o o2 k (rw (n_is, n2_is, n3_is) numbers)
+                (rw (n_is, n2_is, n3_is) f) (ol ∙ part) (o2l ∙ part2) told)
 
 -- where a run stands is within its slices
 pub at_within : {t₀ : Tape} {m₀ : ListOrderedMultimap} {p : Place} {t : Tape} {m : ListOrderedMultimap} → At t₀ m₀ p t m → Within p t
@@ -123,20 +136,18 @@ all_ran {t₀} {m₀} {p} {t} {m} v none =
 
 -- the slices reach as far as the place past a call that fits, and the sums that lead there are numbers of 64 bits
 pub record Reach (p : Place) (h : Head) (q : Place) (t : Tape) : Type 0 where
-  pub call : p.call + 7 ≤ length t.calls.now
   pub out : (p.out ≤ q.out) × (q.out ≤ length t.outs.now)
   pub out2 : (p.out2 ≤ q.out2) × (q.out2 ≤ length t.outs2.now)
   pub mark : (p.mark ≤ q.mark) × (q.mark ≤ length t.marks.now)
   pub answer : (p.answer ≤ q.answer) × (q.answer ≤ length t.answers.now)
 
-pub reach : {p : Place} {h : Head} {q : Place} {t : Tape} → Within p t → 7 ≤ length t.calls.now - p.call
+pub reach : {p : Place} {h : Head} {q : Place} {t : Tape} → Within p t
     → fits_head h (length t.outs.now - p.out) (length t.outs2.now - p.out2) (length t.marks.now - p.mark) (length t.answers.now - p.answer) ≡ true → Past p h q
     → Reach p h q t
-reach {p} {h} {q} {t} w l f past =
+reach {p} {h} {q} {t} w f past =
     let fit : Fits h.op h.n h.n2 h.n3 (length t.outs.now - p.out) (length t.outs2.now - p.out2) (length t.marks.now - p.mark) (length t.answers.now - p.answer) =
     fits_says h.op h.n h.n2 h.n3 (length t.outs.now - p.out) (length t.outs2.now - p.out2) (length t.marks.now - p.mark) (length t.answers.now - p.answer) f in
     record {
-      call = omega (arith, w, l);
       out = omega (arith, w, fit, past);
       out2 = omega (arith, w, fit, past);
       mark = omega (arith, w, fit, past);

@@ -3,19 +3,18 @@
 use mathlib.Core.Path.{◌≡◌, refl, ap, sym, subst, subst₃, ◌∙◌}
 use mathlib.Core.Bool.{true, false}
 use mathlib.Core.List.{List, [], ◌∷◌, ◌++◌, append_assoc}
-use Prim.Native.Nat.{ℕ, suc, ◌+◌, ◌-◌, ◌≤◌, ◌<◌}
+use Prim.Native.Nat.{ℕ, suc, ◌+◌, ◌-◌, ◌≤◌}
 use native.Mathlib.Nat.{add-zero, zero-add}
-use native.Mathlib.Numerals.{add-one, add-two, add-three, add-four, add_five, add_six, add_seven}
 use native.Mathlib.Omega.{arith}
-use lib.ListN.{length, take, drop, get_or, take-append-drop, length-append, length-drop}
-use lib.Seq.{drop-cons, drop-drop, take_at, drop_at, length-take-le}
+use lib.ListN.{length, take, drop, take-append-drop, length-append, length-drop}
+use lib.Seq.{drop-drop, take_at, drop_at, length-take-le}
 use borrow.Rule.Slice.PartMut.{put_mid, same_len_mid}
 use Rattle.steps.specs.Trace.{Kind}
 use Rattle.steps.specs.Told.{Told}
 use Rattle.steps.specs.Call.{call_of}
 use Rattle.replay.specs.Tape.{fits, decode, Ran, Reached}
 use Rattle.steps.proofs.Coded.{coded_length}
-use Rattle.replay.proofs.Tapes.{decode_short, decode_not, Fits, fits_says, ran_ended, ran_call}
+use Rattle.replay.proofs.Tapes.{decode_not, Fits, fits_says, ran_ended, ran_call}
 
 -- a part of xs from a on, of k elements, with ys put there
 module _ (xs ys : List ℕ) (a k : ℕ) (h : a + k ≤ length xs) (e : length ys ≡ k) where
@@ -31,34 +30,14 @@ module _ (xs ys : List ℕ) (a k : ℕ) (h : a + k ≤ length xs) (e : length ys
   length_mid : length (put_mid a k xs ys) ≡ length xs
   length_mid = same_len_mid a k xs ys (e ∙ sym (length-take-le k (drop a xs) (omega (arith, length-drop a xs))))
 
-drop_seven : (l : List ℕ) (i : ℕ) → i + 7 ≤ length l
-    → drop i l ≡ get_or l i 0 ∷ get_or l (i + 1) 0 ∷ get_or l (i + 2) 0 ∷ get_or l (i + 3) 0 ∷ get_or l (i + 4) 0 ∷ get_or l (i + 5) 0 ∷ get_or l (i + 6) 0 ∷ drop (i + 7) l
-drop_seven l i h =
-    rw (add-one, add-two, add-three, add-four, add_five, add_six, add_seven)
-    (one i (omega arith)
-    ∙ ap (λ (r : List ℕ). get_or l i 0 ∷ r) (one (suc i) (omega arith)
-    ∙ ap (λ (r : List ℕ). get_or l (suc i) 0 ∷ r) (one (suc (suc i)) (omega arith)
-    ∙ ap (λ (r : List ℕ). get_or l (suc (suc i)) 0 ∷ r) (one (suc (suc (suc i))) (omega arith)
-    ∙ ap (λ (r : List ℕ). get_or l (suc (suc (suc i))) 0 ∷ r) (one (suc (suc (suc (suc i)))) (omega arith)
-    ∙ ap (λ (r : List ℕ). get_or l (suc (suc (suc (suc i)))) 0 ∷ r) (one (suc (suc (suc (suc (suc i))))) (omega arith)
-    ∙ ap (λ (r : List ℕ). get_or l (suc (suc (suc (suc (suc i))))) 0 ∷ r) (one (suc (suc (suc (suc (suc (suc i)))))) (omega arith))))))))
-  where
-    one : (j : ℕ) → j < length l → drop j l ≡ get_or l j 0 ∷ drop (suc j) l
-    one j h = drop-cons l j 0 h
-
--- no call is left from i on
-module _ (calls outs outs2 marks ans : List ℕ) (i at at2 at3 a : ℕ) where
-  pub ended_short : length calls - i < 7 → decode (drop i calls) (drop at outs) (drop at2 outs2) (drop at3 marks) (length (drop a ans)) ≡ []
-  ended_short h = decode_short (drop i calls) (drop at outs) (drop at2 outs2) (drop at3 marks) (length (drop a ans)) (omega (arith, length-drop i calls))
-
-  pub ended_not : i + 7 ≤ length calls
-      → fits (get_or calls i 0) (get_or calls (i + 4) 0) (get_or calls (i + 5) 0) (get_or calls (i + 6) 0) (length outs - at) (length outs2 - at2) (length marks - at3) (length ans - a) ≡ false
-      → decode (drop i calls) (drop at outs) (drop at2 outs2) (drop at3 marks) (length (drop a ans)) ≡ []
-  ended_not h f =
-      rw (drop_seven calls i h)
-      (decode_not (get_or calls i 0) (get_or calls (i + 1) 0) (get_or calls (i + 2) 0) (get_or calls (i + 3) 0) (get_or calls (i + 4) 0) (get_or calls (i + 5) 0) (get_or calls (i + 6) 0) (drop (i + 7) calls)
-      (drop at outs) (drop at2 outs2) (drop at3 marks) (length (drop a ans))
-      (rw (length-drop at outs, length-drop at2 outs2, length-drop at3 marks, length-drop a ans) f))
+-- the list does not go on with the call whose numbers come next
+pub ended_not : (calls outs outs2 marks ans : List ℕ) (i at at2 at3 a : ℕ) (op poster key value n n2 n3 : ℕ) (l : List ℕ) → drop i calls ≡ op ∷ poster ∷ key ∷ value ∷ n ∷ n2 ∷ n3 ∷ l
+    → fits op n n2 n3 (length outs - at) (length outs2 - at2) (length marks - at3) (length ans - a) ≡ false
+    → decode (drop i calls) (drop at outs) (drop at2 outs2) (drop at3 marks) (length (drop a ans)) ≡ []
+ended_not calls outs outs2 marks ans i at at2 at3 a op poster key value n n2 n3 l e f =
+    rw e
+    (decode_not op poster key value n n2 n3 l (drop at outs) (drop at2 outs2) (drop at3 marks) (length (drop a ans))
+    (rw (length-drop at outs, length-drop at2 outs2, length-drop at3 marks, length-drop a ans) f))
 
 module _ {Map : Type 0} (M : Kind Map) where
   pub begins : (calls outs outs2 marks ans : List ℕ) (m : Map) → M.Linked m → Reached M calls outs outs2 marks ans m outs outs2 ans m 0 0 0 0 0 0
@@ -89,14 +68,16 @@ module _ {Map : Type 0} (M : Kind Map) where
   module _ (calls outs₀ outs2₀ marks ans₀ : List ℕ) (m₀ : Map) (outs outs2 ans : List ℕ) (held : Map) (i at at2 at3 a ran : ℕ)
       (v : Reached M calls outs₀ outs2₀ marks ans₀ m₀ outs outs2 ans held i at at2 at3 a ran) where
     -- one call more: n, n2 and n3 are the lengths of its slices, o, o2 and k what its slices and its answer now hold
-    module _ (held' : Map) (n n2 n3 : ℕ) (o o2 k : List ℕ)
-        (n_is : get_or calls (i + 4) 0 ≡ n) (n2_is : get_or calls (i + 5) 0 ≡ n2) (n3_is : get_or calls (i + 6) 0 ≡ n3)
-        (calls_in : i + 7 ≤ length calls)
-        (f : fits (get_or calls i 0) n n2 n3 (length outs - at) (length outs2 - at2) (length marks - at3) (length ans - a) ≡ true)
+    module _ (held' : Map) (op poster key value n n2 n3 : ℕ) (o o2 k : List ℕ)
+        (e : drop i calls ≡ op ∷ poster ∷ key ∷ value ∷ n ∷ n2 ∷ n3 ∷ drop (i + 7) calls)
+        (f : fits op n n2 n3 (length outs - at) (length outs2 - at2) (length marks - at3) (length ans - a) ≡ true)
         (o_len : length o ≡ n) (o2_len : length o2 ≡ n2)
-        (t : Told M (call_of (get_or calls i 0) (get_or calls (i + 1) 0) (get_or calls (i + 2) 0) (get_or calls (i + 3) 0) (take n (drop at outs)) (take n2 (drop at2 outs2)) (take n3 (drop at3 marks))) held held' o o2 k) where
-      g : Fits (get_or calls i 0) n n2 n3 (length outs - at) (length outs2 - at2) (length marks - at3) (length ans - a)
-      g = fits_says (get_or calls i 0) n n2 n3 (length outs - at) (length outs2 - at2) (length marks - at3) (length ans - a) f
+        (t : Told M (call_of op poster key value (take n (drop at outs)) (take n2 (drop at2 outs2)) (take n3 (drop at3 marks))) held held' o o2 k) where
+      g : Fits op n n2 n3 (length outs - at) (length outs2 - at2) (length marks - at3) (length ans - a)
+      g = fits_says op n n2 n3 (length outs - at) (length outs2 - at2) (length marks - at3) (length ans - a) f
+
+      calls_in : i + 7 ≤ length calls
+      calls_in = omega (arith, ap length e, length-drop i calls, v.i_in)
 
       k_len : length k ≡ 4
       k_len = ap length t.ans_is ∙ coded_length t.outcome.answer
@@ -116,8 +97,8 @@ module _ {Map : Type 0} (M : Kind Map) where
       goes : (x y z : List ℕ) (m : Map) (r : ℕ) → Ran M (drop (i + 7) calls) (drop n (drop at outs)) (drop n2 (drop at2 outs2)) (drop n3 (drop at3 marks)) (drop 4 (drop a ans)) held' x y z m r
           → Ran M (drop i calls) (drop at outs) (drop at2 outs2) (drop at3 marks) (drop a ans) held (o ++ x) (o2 ++ y) (k ++ z) m (suc r)
       goes x y z m s r =
-          rw (drop_seven calls i calls_in, n_is, n2_is, n3_is)
-          (ran_call M (get_or calls i 0) (get_or calls (i + 1) 0) (get_or calls (i + 2) 0) (get_or calls (i + 3) 0) n n2 n3 (drop (i + 7) calls) (drop at outs) (drop at2 outs2) (drop at3 marks) (drop a ans) held held' m o o2 k x y z s
+          rw e
+          (ran_call M op poster key value n n2 n3 (drop (i + 7) calls) (drop at outs) (drop at2 outs2) (drop at3 marks) (drop a ans) held held' m o o2 k x y z s
           (rw (length-drop at outs, length-drop at2 outs2, length-drop at3 marks, length-drop a ans) f) o_len o2_len t r)
 
       one_on : (s : ℕ) → ran + 1 + s ≡ ran + suc s

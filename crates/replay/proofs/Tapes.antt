@@ -2,6 +2,7 @@
 use mathlib.Core.Path.{◌≡◌, refl, ap, sym, subst, ◌∙◌}
 use mathlib.Core.Bool.{Bool, true, false, ◌&&◌, ◌||◌, false≢true}
 use mathlib.Core.List.{List, [], ◌∷◌, ◌++◌, append_assoc}
+use Rattle.std.specs.Prelude.{Some, None}
 use Prim.Native.Nat.{ℕ, suc, ◌+◌, ◌-◌, ◌≤◌, ◌<◌}
 use native.Mathlib.Omega.{arith}
 use lib.Dec.{eqb, leb, ltb}
@@ -24,17 +25,53 @@ use Rattle.multimap.specs.WellLinked.{WellLinked, linked}
 use Rattle.multimap.specs.declared.ListOrderedMultimap.{ListOrderedMultimap}
 use Rattle.multimap.proofs.Demand3.{demand_3}
 use Rattle.replay.specs.Played.{Played}
+use Rattle.replay.specs.Place.{head_of}
+use Rattle.replay.specs.declared.Head.{Head}
 
-pub decode_short : (calls outs outs2 marks : List ℕ) (space : ℕ) → length calls < 7 → decode calls outs outs2 marks space ≡ []
+-- a list shorter than seven numbers holds no call
+pub head_none : (l : List ℕ) → length l < 7 → None ≡ head_of l
+head_none [] h = refl
+head_none (a ∷ []) h = refl
+head_none (a ∷ b ∷ []) h = refl
+head_none (a ∷ b ∷ c ∷ []) h = refl
+head_none (a ∷ b ∷ c ∷ d ∷ []) h = refl
+head_none (a ∷ b ∷ c ∷ d ∷ e ∷ []) h = refl
+head_none (a ∷ b ∷ c ∷ d ∷ e ∷ f ∷ []) h = refl
+head_none (a ∷ b ∷ c ∷ d ∷ e ∷ f ∷ g ∷ l) h = absurd (omega arith)
+
+pub head_first : (l : List ℕ) → 7 ≤ length l
+    → Some (record { op = get_or l 0 0; poster = get_or l 1 0; k = get_or l 2 0; v = get_or l 3 0; n = get_or l 4 0; n2 = get_or l 5 0; n3 = get_or l 6 0 }) ≡ head_of l
+head_first [] h = absurd (omega arith)
+head_first (a ∷ []) h = absurd (omega arith)
+head_first (a ∷ b ∷ []) h = absurd (omega arith)
+head_first (a ∷ b ∷ c ∷ []) h = absurd (omega arith)
+head_first (a ∷ b ∷ c ∷ d ∷ []) h = absurd (omega arith)
+head_first (a ∷ b ∷ c ∷ d ∷ e ∷ []) h = absurd (omega arith)
+head_first (a ∷ b ∷ c ∷ d ∷ e ∷ f ∷ []) h = absurd (omega arith)
+head_first (a ∷ b ∷ c ∷ d ∷ e ∷ f ∷ g ∷ l) h = refl
+
+pub decode_none : (calls outs outs2 marks : List ℕ) (space : ℕ) → head_of calls ≡ None → decode calls outs outs2 marks space ≡ []
 unfolding decode
-decode_short [] o p q s h = refl
-decode_short (a ∷ []) o p q s h = refl
-decode_short (a ∷ b ∷ []) o p q s h = refl
-decode_short (a ∷ b ∷ c ∷ []) o p q s h = refl
-decode_short (a ∷ b ∷ c ∷ d ∷ []) o p q s h = refl
-decode_short (a ∷ b ∷ c ∷ d ∷ e ∷ []) o p q s h = refl
-decode_short (a ∷ b ∷ c ∷ d ∷ e ∷ f ∷ []) o p q s h = refl
-decode_short (a ∷ b ∷ c ∷ d ∷ e ∷ f ∷ g ∷ l) o p q s h = absurd (omega arith)
+decode_none [] o p q s h = refl
+decode_none (a ∷ []) o p q s h = refl
+decode_none (a ∷ b ∷ []) o p q s h = refl
+decode_none (a ∷ b ∷ c ∷ []) o p q s h = refl
+decode_none (a ∷ b ∷ c ∷ d ∷ []) o p q s h = refl
+decode_none (a ∷ b ∷ c ∷ d ∷ e ∷ []) o p q s h = refl
+decode_none (a ∷ b ∷ c ∷ d ∷ e ∷ f ∷ []) o p q s h = refl
+decode_none (a ∷ b ∷ c ∷ d ∷ e ∷ f ∷ g ∷ l) o p q s h = absurd (cc h)
+
+-- the call's numbers, and what is behind them
+pub head_says : (l : List ℕ) (h : Head) → head_of l ≡ Some h → l ≡ h.op ∷ h.poster ∷ h.k ∷ h.v ∷ h.n ∷ h.n2 ∷ h.n3 ∷ drop 7 l
+head_says [] h e = absurd (cc e)
+head_says (a ∷ []) h e = absurd (cc e)
+head_says (a ∷ b ∷ []) h e = absurd (cc e)
+head_says (a ∷ b ∷ c ∷ []) h e = absurd (cc e)
+head_says (a ∷ b ∷ c ∷ d ∷ []) h e = absurd (cc e)
+head_says (a ∷ b ∷ c ∷ d ∷ x ∷ []) h e = absurd (cc e)
+head_says (a ∷ b ∷ c ∷ d ∷ x ∷ y ∷ []) h e = absurd (cc e)
+head_says (a ∷ b ∷ c ∷ d ∷ x ∷ y ∷ z ∷ l) h e =
+    ap (λ (j : Head). j.op ∷ j.poster ∷ j.k ∷ j.v ∷ j.n ∷ j.n2 ∷ j.n3 ∷ l) (cc e)
 
 module _ (op poster k v n n2 n3 : ℕ) (calls outs outs2 marks : List ℕ) (space : ℕ) where
   pub decode_not : fits op n n2 n3 (length outs) (length outs2) (length marks) space ≡ false → decode (op ∷ poster ∷ k ∷ v ∷ n ∷ n2 ∷ n3 ∷ calls) outs outs2 marks space ≡ []

@@ -1,5 +1,5 @@
 -- Where a run of a list of calls stands in its slices, and what the functions that move it on ensure.
-use Rattle.std.specs.Prelude.{◌≡◌, Bool, false, List, [], ℕ, Option, Some, None, ◌+◌, ◌*◌, ◌≤◌, ◌<◌, length, drop, get_or}
+use Rattle.std.specs.Prelude.{◌≡◌, Bool, false, List, [], ◌∷◌, ℕ, Option, Some, None, ◌+◌, ◌*◌, ◌≤◌, ◌<◌, length, drop}
 use Rattle.steps.specs.Call.{Call, lends, lends_two}
 use Rattle.multimap.specs.WellLinked.{WellLinked, linked}
 use Rattle.multimap.specs.declared.ListOrderedMultimap.{ListOrderedMultimap}
@@ -8,18 +8,16 @@ use Rattle.replay.specs.declared.Head.{Head}
 use Rattle.replay.specs.declared.Place.{Place}
 use Rattle.replay.specs.declared.Tape.{Tape}
 
--- The seven numbers from i on.
-abbrev pub head_at : List ℕ → ℕ → Head
-head_at l i =
-    record {
-      op = get_or l i 0;
-      poster = get_or l (i + 1) 0;
-      k = get_or l (i + 2) 0;
-      v = get_or l (i + 3) 0;
-      n = get_or l (i + 4) 0;
-      n2 = get_or l (i + 5) 0;
-      n3 = get_or l (i + 6) 0;
-    }
+-- The seven numbers that a list of numbers begins with.
+abbrev pub head_of : List ℕ → Option Head
+head_of [] = None
+head_of (a ∷ []) = None
+head_of (a ∷ b ∷ []) = None
+head_of (a ∷ b ∷ c ∷ []) = None
+head_of (a ∷ b ∷ c ∷ d ∷ []) = None
+head_of (a ∷ b ∷ c ∷ d ∷ e ∷ []) = None
+head_of (a ∷ b ∷ c ∷ d ∷ e ∷ f ∷ []) = None
+head_of (a ∷ b ∷ c ∷ d ∷ e ∷ f ∷ g ∷ l) = Some (record { op = a; poster = b; k = c; v = d; n = e; n2 = f; n3 = g })
 
 abbrev pub known_head : Head → Bool
 known_head h = known h.op h.n h.n2 h.n3

@@ -2,13 +2,13 @@
 
 #![tactic(auto)]
 
-ghost use Rattle.std.specs.Prelude.{◌≡◌, ◌+◌, ◌≤◌, length};
+ghost use Rattle.std.specs.Prelude.{◌≡◌, length};
 ghost use Rattle.steps.specs.State.{limit};
 ghost use Rattle.steps.specs.Call.{call_of, lends as lends_of};
 ghost use Rattle.steps.specs.Told.{Told};
 ghost use Rattle.multimap.specs.declared.ListOrderedMultimap.{ListOrderedMultimap};
 ghost use Rattle.multimap.specs.WellLinked.{WellLinked, linked};
-ghost use Rattle.replay.specs.Place.{head_at, known_head, fits_head, Ready, Small, Past, Within, AllRan, Advanced};
+ghost use Rattle.replay.specs.Place.{head_of, known_head, fits_head, Ready, Small, Past, Within, AllRan, Advanced};
 ghost use Rattle.replay.specs.Played.{Played};
 
 use multimap::ListOrderedMultimap;
@@ -70,22 +70,26 @@ struct Place {
     ran: u64,
 }
 
-fn read_head(calls: &[u64], i: usize) -> Head
-    requires { i + 7 ≤ length calls.now }
-    ensures { result ≡ head_at calls.now i }
+// Reads the seven numbers of the call that the list goes on with, if it does.
+#[tactic(auto, using(crate::proofs::Tapes::head_first, crate::proofs::Tapes::head_none))]
+fn read_head(calls: &[u64]) -> Option<Head>
+    ensures { result ≡ head_of calls.now }
 {
-    Head {
-        op: calls[i],
-        poster: calls[i + 1],
-        k: calls[i + 2],
-        v: calls[i + 3],
-        n: calls[i + 4],
-        n2: calls[i + 5],
-        n3: calls[i + 6],
-    }
+    let &[op, poster, k, v, n, n2, n3, ..] = calls else {
+        return None;
+    };
+    Some(Head {
+        op,
+        poster,
+        k,
+        v,
+        n,
+        n2,
+        n3,
+    })
 }
 
-// Says whether the call has an out slice.
+// Says whether the call has an out slice. Goes by the calls' numbers, as `known` does, since a list of calls names them so (crate steps, `call_of`).
 fn lends(op: u64) -> bool
     ensures { result ≡ lends_of op }
 {
@@ -146,10 +150,7 @@ impl Tape<'_> {
         requires { WellLinked map.old × Within p self.old }
         ensures { Advanced p self.old map.old result self.new map.new }
     {
-        if self.calls.len() - p.call < 7 {
-            return None;
-        }
-        let h = read_head(self.calls, p.call);
+        let h = read_head(&self.calls[p.call..])?;
         let room = (self.outs.len() - p.out) as u64;
         let room2 = (self.outs2.len() - p.out2) as u64;
         let room3 = (self.marks.len() - p.mark) as u64;

@@ -7,42 +7,42 @@ use Rattle.replay.proofs.Tapes.{Fits, fits_says}
 use Rattle.replay.proofs.Places.{stops_short, stops_not, ready, goes_on, reach}
 use Rattle.replay.proofs.Tape.advance.Goals as goal
 
-pub returns-then-self-p-lt7 : goal.returns-then-self-p-lt7
-returns-then-self-p-lt7 c = stops_short c.args.p _ _ c.if-self-p-lt7.true
+pub returns-in_err-h : goal.returns-in_err-h
+returns-in_err-h c = rw c.from_residual.ensures (stops_short c.args.p c.args.self.now c.args.map.now c.in_err-h.ensures)
 
 pub returns-then-not-fits : goal.returns-then-not-fits
-returns-then-not-fits c = stops_not c.args.p _ _ _ c.read_head-h.ensures c.if-self-p-lt7.false c.requires.1 (sym c.fits.ensures ∙ c.if-not-fits.true)
+returns-then-not-fits c = stops_not c.args.p c.args.self.now _ _ c.in_ok-h.ensures (sym c.fits.ensures ∙ c.if-not-fits.true)
 
 pub after-q-requires : goal.after-q-requires
 after-q-requires c =
     let p = c.args.p in
     let t = c.args.self.now in
-    let h = c.read_head-h.result in
+    let h = c.in_ok-h.h in
     let fit : Fits h.op h.n h.n2 h.n3 (length t.outs.now - p.out) (length t.outs2.now - p.out2) (length t.marks.now - p.mark) (length t.answers.now - p.answer) =
     fits_says _ _ _ _ _ _ _ _ (sym c.fits.ensures ∙ c.if-not-fits.false) in
-    omega (arith, fit, c.if-self-p-lt7.false, c.requires.1)
+    omega (arith, fit, c.requires.1)
 
 pub slice_bounds-turn-end : goal.slice_bounds-turn-end
-slice_bounds-turn-end c = omega (arith, reach c.requires.1 c.if-self-p-lt7.false (sym c.fits.ensures ∙ c.if-not-fits.false) c.after-q.ensures)
+slice_bounds-turn-end c = omega (arith, reach c.requires.1 (sym c.fits.ensures ∙ c.if-not-fits.false) c.after-q.ensures)
 
 pub slice_bounds-turn-end-2 : goal.slice_bounds-turn-end-2
-slice_bounds-turn-end-2 c = omega (arith, reach c.requires.1 c.if-self-p-lt7.false (sym c.fits.ensures ∙ c.if-not-fits.false) c.after-q.ensures)
+slice_bounds-turn-end-2 c = omega (arith, reach c.requires.1 (sym c.fits.ensures ∙ c.if-not-fits.false) c.after-q.ensures)
 
 pub slice_bounds-turn-end-3 : goal.slice_bounds-turn-end-3
-slice_bounds-turn-end-3 c = omega (arith, reach c.requires.1 c.if-self-p-lt7.false (sym c.fits.ensures ∙ c.if-not-fits.false) c.after-q.ensures)
+slice_bounds-turn-end-3 c = omega (arith, reach c.requires.1 (sym c.fits.ensures ∙ c.if-not-fits.false) c.after-q.ensures)
 
 pub slice_bounds-turn-end-4 : goal.slice_bounds-turn-end-4
-slice_bounds-turn-end-4 c = omega (arith, reach c.requires.1 c.if-self-p-lt7.false (sym c.fits.ensures ∙ c.if-not-fits.false) c.after-q.ensures)
+slice_bounds-turn-end-4 c = omega (arith, reach c.requires.1 (sym c.fits.ensures ∙ c.if-not-fits.false) c.after-q.ensures)
 
 pub turn-requires : goal.turn-requires
 turn-requires c =
     let p = c.args.p in
     let q = c.after-q.result in
-    ready p c.args.self.now _ _ c.read_head-h.ensures c.if-self-p-lt7.false c.requires.1 (sym c.fits.ensures ∙ c.if-not-fits.false)
+    ready p c.args.self.now _ _ c.in_ok-h.ensures (sym c.fits.ensures ∙ c.if-not-fits.false)
     (q.out - p.out) (q.out2 - p.out2) (q.mark - p.mark) (q.answer - p.answer) (omega (arith, c.after-q.ensures)) (omega (arith, c.after-q.ensures)) (omega (arith, c.after-q.ensures)) (omega (arith, c.after-q.ensures)) c.requires.0
 
 pub returns : goal.returns
 returns c =
-    goes_on c.args.p c.args.self.now _ _ c.read_head-h.ensures c.if-self-p-lt7.false c.requires.1 (sym c.fits.ensures ∙ c.if-not-fits.false)
+    goes_on c.args.p c.args.self.now _ _ c.in_ok-h.ensures (sym c.fits.ensures ∙ c.if-not-fits.false)
     _ _ _ _ (omega (arith, c.after-q.ensures)) (omega (arith, c.after-q.ensures)) (omega (arith, c.after-q.ensures)) (omega (arith, c.after-q.ensures))
     c.after-q.result _ _ _ _ _ c.after-q.ensures (record { calls = refl; marks = refl; outs = refl; outs2 = refl; answers = refl }) refl refl refl c.turn.auto.out c.turn.auto.out2 c.turn.ensures
