@@ -3,7 +3,7 @@ use mathlib.Core.Path.{◌≡◌, refl, ap, sym, ◌∙◌, subst}
 use mathlib.Core.Bool.{Bool, true, false}
 use mathlib.Core.List.{List, [], ◌∷◌}
 use Rattle.std.specs.Prelude.{Some, None}
-use Prim.Native.Nat.{ℕ, ◌+◌, ◌-◌, ◌≤◌, ◌<◌}
+use Prim.Native.Nat.{ℕ, ◌+◌, ◌*◌, ◌-◌, ◌≤◌, ◌<◌}
 use native.Mathlib.Omega.{arith}
 use lib.ListN.{length, take, drop, length-drop}
 use Rattle.std.proofs.lemmas.List.{take_all}
@@ -43,24 +43,24 @@ module _ (p : Place) (t : Tape) (m : ListOrderedMultimap) where
   stays : rest p t ≡ [] → Ended p t m t m
   stays r = record { none = r; tape_is = refl; map_is = refl }
 
-  pub stops_short : None ≡ head_of (ahead p.call t.calls.now) → Ended p t m t m
+  pub stops_short : None ≡ head_of (ahead (7 * p.ran) t.calls.now) → Ended p t m t m
   stops_short e =
       stays
-      (decode_none (drop p.call t.calls.now) (drop p.out t.outs.now) (drop p.out2 t.outs2.now) (drop p.mark t.marks.now) (length (drop p.answer t.answers.now))
-      (sym (rw (ahead_is p.call t.calls.now) at e)))
+      (decode_none (drop (7 * p.ran) t.calls.now) (drop p.out t.outs.now) (drop p.out2 t.outs2.now) (drop p.mark t.marks.now) (length (drop (4 * p.ran) t.answers.now))
+      (sym (rw (ahead_is (7 * p.ran) t.calls.now) at e)))
 
-  module _ (h : Head) (is : Some h ≡ head_of (ahead p.call t.calls.now)) where
-    numbers : drop p.call t.calls.now ≡ h.op ∷ h.poster ∷ h.k ∷ h.v ∷ h.n ∷ h.n2 ∷ h.n3 ∷ drop (p.call + 7) t.calls.now
+  module _ (h : Head) (is : Some h ≡ head_of (ahead (7 * p.ran) t.calls.now)) where
+    numbers : drop (7 * p.ran) t.calls.now ≡ h.op ∷ h.poster ∷ h.k ∷ h.v ∷ h.n ∷ h.n2 ∷ h.n3 ∷ drop ((7 * p.ran) + 7) t.calls.now
     numbers =
-        head_says (drop p.call t.calls.now) h (sym (rw (ahead_is p.call t.calls.now) at is))
-        ∙ ap (λ (l : List ℕ). h.op ∷ h.poster ∷ h.k ∷ h.v ∷ h.n ∷ h.n2 ∷ h.n3 ∷ l) (drop-drop 7 p.call t.calls.now)
+        head_says (drop (7 * p.ran) t.calls.now) h (sym (rw (ahead_is (7 * p.ran) t.calls.now) at is))
+        ∙ ap (λ (l : List ℕ). h.op ∷ h.poster ∷ h.k ∷ h.v ∷ h.n ∷ h.n2 ∷ h.n3 ∷ l) (drop-drop 7 (7 * p.ran) t.calls.now)
 
-    pub stops_not : fits_head h (length t.outs.now - p.out) (length t.outs2.now - p.out2) (length t.marks.now - p.mark) (length t.answers.now - p.answer) ≡ false → Ended p t m t m
-    stops_not f = stays (ended_not t.calls.now t.outs.now t.outs2.now t.marks.now t.answers.now p.call p.out p.out2 p.mark p.answer h.op h.poster h.k h.v h.n h.n2 h.n3 (drop (p.call + 7) t.calls.now) numbers f)
+    pub stops_not : fits_head h (length t.outs.now - p.out) (length t.outs2.now - p.out2) (length t.marks.now - p.mark) (length t.answers.now - (4 * p.ran)) ≡ false → Ended p t m t m
+    stops_not f = stays (ended_not t.calls.now t.outs.now t.outs2.now t.marks.now t.answers.now (7 * p.ran) p.out p.out2 p.mark (4 * p.ran) h.op h.poster h.k h.v h.n h.n2 h.n3 (drop ((7 * p.ran) + 7) t.calls.now) numbers f)
 
-    module _ (f : fits_head h (length t.outs.now - p.out) (length t.outs2.now - p.out2) (length t.marks.now - p.mark) (length t.answers.now - p.answer) ≡ true) where
-      pub room : Fits h.op h.n h.n2 h.n3 (length t.outs.now - p.out) (length t.outs2.now - p.out2) (length t.marks.now - p.mark) (length t.answers.now - p.answer)
-      room = fits_says h.op h.n h.n2 h.n3 (length t.outs.now - p.out) (length t.outs2.now - p.out2) (length t.marks.now - p.mark) (length t.answers.now - p.answer) f
+    module _ (f : fits_head h (length t.outs.now - p.out) (length t.outs2.now - p.out2) (length t.marks.now - p.mark) (length t.answers.now - (4 * p.ran)) ≡ true) where
+      pub room : Fits h.op h.n h.n2 h.n3 (length t.outs.now - p.out) (length t.outs2.now - p.out2) (length t.marks.now - p.mark) (length t.answers.now - (4 * p.ran))
+      room = fits_says h.op h.n h.n2 h.n3 (length t.outs.now - p.out) (length t.outs2.now - p.out2) (length t.marks.now - p.mark) (length t.answers.now - (4 * p.ran)) f
 
       -- n, n2, n3 and b are the lengths of the parts that are lent
       module _ (n n2 n3 b : ℕ) (n_is : n ≡ h.n) (n2_is : n2 ≡ h.n2) (n3_is : n3 ≡ h.n3) (b_is : b ≡ 4) where
@@ -70,7 +70,7 @@ module _ (p : Place) (t : Tape) (m : ListOrderedMultimap) where
         part2 : length (take n2 (drop p.out2 t.outs2.now)) ≡ n2
         part2 = length-take-le n2 (drop p.out2 t.outs2.now) (omega (arith, length-drop p.out2 t.outs2.now, room.n2_in))
 
-        pub ready : WellLinked m → Ready m h.op (take n (drop p.out t.outs.now)) (take n2 (drop p.out2 t.outs2.now)) × (length (take b (drop p.answer t.answers.now)) ≡ 4)
+        pub ready : WellLinked m → Ready m h.op (take n (drop p.out t.outs.now)) (take n2 (drop p.out2 t.outs2.now)) × (length (take b (drop (4 * p.ran) t.answers.now)) ≡ 4)
         ready l = (
           record {
             linked = l;
@@ -78,20 +78,26 @@ module _ (p : Place) (t : Tape) (m : ListOrderedMultimap) where
             no_slice = λ e. part ∙ n_is ∙ room.no_slice e;
             no_second = λ e. part2 ∙ n2_is ∙ room.no_second e;
           },
-          length-take-le b (drop p.answer t.answers.now) (omega (arith, length-drop p.answer t.answers.now, room.space_in)) ∙ b_is,
+          length-take-le b (drop (4 * p.ran) t.answers.now) (omega (arith, length-drop (4 * p.ran) t.answers.now, room.space_in)) ∙ b_is,
         )
 
         pub goes_on : (q : Place) (t' : Tape) (m' : ListOrderedMultimap) (o o2 k : List ℕ) → Past p h q → Same t t'
-            → t'.outs.now ≡ put_mid p.out n t.outs.now o → t'.outs2.now ≡ put_mid p.out2 n2 t.outs2.now o2 → t'.answers.now ≡ put_mid p.answer b t.answers.now k
+            → t'.outs.now ≡ put_mid p.out n t.outs.now o → t'.outs2.now ≡ put_mid p.out2 n2 t.outs2.now o2 → t'.answers.now ≡ put_mid (4 * p.ran) b t.answers.now k
             → length o ≡ length (take n (drop p.out t.outs.now)) → length o2 ≡ length (take n2 (drop p.out2 t.outs2.now))
             → Told linked (call_of h.op h.poster h.k h.v (take n (drop p.out t.outs.now)) (take n2 (drop p.out2 t.outs2.now)) (take n3 (drop p.mark t.marks.now))) m m' o o2 k
             → Onward p t m q t' m'
         goes_on q t' m' o o2 k past s outs_are outs2_are ans_are ol o2l told =
             record {
               keeps = λ t₀ m₀ v. record { same = same_on v.same s; reached = at_q t₀ m₀ v };
-              onward = omega (arith, past.call);
+              onward = omega (arith, past.ran);
             }
           where
+            call_is : 7 * q.ran ≡ 7 * p.ran + 7
+            call_is = omega (arith, past.ran)
+
+            answer_is : 4 * q.ran ≡ 4 * p.ran + 4
+            answer_is = omega (arith, past.ran)
+
             out_is : q.out ≡ p.out + n
             out_is = past.out ∙ ap (λ (x : ℕ). p.out + x) (sym n_is)
 
@@ -102,10 +108,10 @@ module _ (p : Place) (t : Tape) (m : ListOrderedMultimap) where
             mark_is = past.mark ∙ ap (λ (x : ℕ). p.mark + x) (sym n3_is)
 
             at_q : (t₀ : Tape) (m₀ : ListOrderedMultimap) → At t₀ m₀ p t m
-                → Reached linked t₀.calls.now t₀.outs.now t₀.outs2.now t₀.marks.now t₀.answers.now m₀ t'.outs.now t'.outs2.now t'.answers.now m' q.call q.out q.out2 q.mark q.answer q.ran
+                → Reached linked t₀.calls.now t₀.outs.now t₀.outs2.now t₀.marks.now t₀.answers.now m₀ t'.outs.now t'.outs2.now t'.answers.now m' (7 * q.ran) q.out q.out2 q.mark (4 * q.ran) q.ran
             at_q t₀ m₀ v =
-                rw (past.call, out_is, out2_is, mark_is, past.answer, past.ran, outs_are, outs2_are, ans_are, b_is, ← v.same.calls, ← v.same.marks)
-                (turn_on linked t.calls.now t₀.outs.now t₀.outs2.now t.marks.now t₀.answers.now m₀ t.outs.now t.outs2.now t.answers.now m p.call p.out p.out2 p.mark p.answer p.ran
+                rw (call_is, answer_is, past.ran, out_is, out2_is, mark_is, outs_are, outs2_are, ans_are, b_is, ← v.same.calls, ← v.same.marks)
+                (turn_on linked t.calls.now t₀.outs.now t₀.outs2.now t.marks.now t₀.answers.now m₀ t.outs.now t.outs2.now t.answers.now m (7 * p.ran) p.out p.out2 p.mark (4 * p.ran) p.ran
                 (rw (← v.same.calls, ← v.same.marks) at v.reached) m' h.op h.poster h.k h.v n n2 n3 o o2 k (rw (n_is, n2_is, n3_is) numbers)
                 (rw (n_is, n2_is, n3_is) f) (ol ∙ part) (o2l ∙ part2) told)
 
@@ -113,15 +119,15 @@ module _ (p : Place) (t : Tape) (m : ListOrderedMultimap) where
 pub at_within : {t₀ : Tape} {m₀ : ListOrderedMultimap} {p : Place} {t : Tape} {m : ListOrderedMultimap} → At t₀ m₀ p t m → Within p t
 at_within v =
     let r = v.reached in
-    record { call = rw v.same.calls r.i_in; out = r.at_in; out2 = r.at2_in; mark = rw v.same.marks r.at3_in; answer = r.a_in; ran = r.ran_is }
+    record { call = rw v.same.calls r.i_in; out = r.at_in; out2 = r.at2_in; mark = rw v.same.marks r.at3_in; answer = r.a_in }
 
 -- a call that was made leaves fewer to come
 pub nearer : {t₀ : Tape} {m₀ : ListOrderedMultimap} {p : Place} {t : Tape} {m : ListOrderedMultimap} {q : Place} {t' : Tape} {m' : ListOrderedMultimap}
-    → At t₀ m₀ p t m → Onward p t m q t' m' → length t'.calls.now - q.call < length t.calls.now - p.call
+    → At t₀ m₀ p t m → Onward p t m q t' m' → length t'.calls.now - (7 * q.ran) < length t.calls.now - (7 * p.ran)
 nearer {t₀} {m₀} {p} {t} {m} {q} {t'} v o =
     let u = o.keeps t₀ m₀ v in
     let e : length t'.calls.now ≡ length t.calls.now = ap length (u.same.calls ∙ sym v.same.calls) in
-    let h : q.call ≤ length t'.calls.now = rw u.same.calls u.reached.i_in in
+    let h : (7 * q.ran) ≤ length t'.calls.now = rw u.same.calls u.reached.i_in in
     omega (arith, o.onward)
 
 -- where the list does not go on, the run is at its end
@@ -130,7 +136,7 @@ all_ran {t₀} {m₀} {p} {t} {m} v none =
     record {
       same = v.same;
       ran =
-          stops linked t₀.calls.now t₀.outs.now t₀.outs2.now t₀.marks.now t₀.answers.now m₀ t.outs.now t.outs2.now t.answers.now m p.call p.out p.out2 p.mark p.answer p.ran v.reached
+          stops linked t₀.calls.now t₀.outs.now t₀.outs2.now t₀.marks.now t₀.answers.now m₀ t.outs.now t.outs2.now t.answers.now m (7 * p.ran) p.out p.out2 p.mark (4 * p.ran) p.ran v.reached
           (rw (← v.same.calls, ← v.same.marks) none);
     }
 
@@ -139,14 +145,14 @@ pub record Reach (p : Place) (h : Head) (q : Place) (t : Tape) : Type 0 where
   pub out : (p.out ≤ q.out) × (q.out ≤ length t.outs.now)
   pub out2 : (p.out2 ≤ q.out2) × (q.out2 ≤ length t.outs2.now)
   pub mark : (p.mark ≤ q.mark) × (q.mark ≤ length t.marks.now)
-  pub answer : (p.answer ≤ q.answer) × (q.answer ≤ length t.answers.now)
+  pub answer : ((4 * p.ran) ≤ (4 * q.ran)) × ((4 * q.ran) ≤ length t.answers.now)
 
 pub reach : {p : Place} {h : Head} {q : Place} {t : Tape} → Within p t
-    → fits_head h (length t.outs.now - p.out) (length t.outs2.now - p.out2) (length t.marks.now - p.mark) (length t.answers.now - p.answer) ≡ true → Past p h q
+    → fits_head h (length t.outs.now - p.out) (length t.outs2.now - p.out2) (length t.marks.now - p.mark) (length t.answers.now - (4 * p.ran)) ≡ true → Past p h q
     → Reach p h q t
 reach {p} {h} {q} {t} w f past =
-    let fit : Fits h.op h.n h.n2 h.n3 (length t.outs.now - p.out) (length t.outs2.now - p.out2) (length t.marks.now - p.mark) (length t.answers.now - p.answer) =
-    fits_says h.op h.n h.n2 h.n3 (length t.outs.now - p.out) (length t.outs2.now - p.out2) (length t.marks.now - p.mark) (length t.answers.now - p.answer) f in
+    let fit : Fits h.op h.n h.n2 h.n3 (length t.outs.now - p.out) (length t.outs2.now - p.out2) (length t.marks.now - p.mark) (length t.answers.now - (4 * p.ran)) =
+    fits_says h.op h.n h.n2 h.n3 (length t.outs.now - p.out) (length t.outs2.now - p.out2) (length t.marks.now - p.mark) (length t.answers.now - (4 * p.ran)) f in
     record {
       out = omega (arith, w, fit, past);
       out2 = omega (arith, w, fit, past);

@@ -34,35 +34,30 @@ pub record Ready (m : ListOrderedMultimap) (op : ℕ) (out out2 : List ℕ) : Ty
 
 -- The sums that lead past the call at p are numbers of 64 bits.
 pub record Small (p : Place) (h : Head) : Type 0 where
-  pub call : p.call + 7 < 18446744073709551616
   pub out : p.out + h.n < 18446744073709551616
   pub out2 : p.out2 + h.n2 < 18446744073709551616
   pub mark : p.mark + h.n3 < 18446744073709551616
-  pub answer : p.answer + 4 < 18446744073709551616
   pub ran : p.ran + 1 < 18446744073709551616
 
 -- q is past the call at p.
 pub record Past (p : Place) (h : Head) (q : Place) : Type 0 where
-  pub call : q.call ≡ p.call + 7
   pub out : q.out ≡ p.out + h.n
   pub out2 : q.out2 ≡ p.out2 + h.n2
   pub mark : q.mark ≡ p.mark + h.n3
-  pub answer : q.answer ≡ p.answer + 4
   pub ran : q.ran ≡ p.ran + 1
 
--- p stands within the slices, and has passed as many answers as calls.
+-- p stands within the slices.
 pub record Within (p : Place) (t : Tape) : Type 0 where
-  pub call : p.call ≤ length t.calls.now
+  pub call : 7 * p.ran ≤ length t.calls.now
   pub out : p.out ≤ length t.outs.now
   pub out2 : p.out2 ≤ length t.outs2.now
   pub mark : p.mark ≤ length t.marks.now
-  pub answer : p.answer ≤ length t.answers.now
-  pub ran : 4 * p.ran ≡ p.answer
+  pub answer : 4 * p.ran ≤ length t.answers.now
 
 -- The calls that the slices hold from p on.
 abbrev pub rest : Place → Tape → List Call
 rest p t =
-    decode (drop p.call t.calls.now) (drop p.out t.outs.now) (drop p.out2 t.outs2.now) (drop p.mark t.marks.now) (length (drop p.answer t.answers.now))
+    decode (drop (7 * p.ran) t.calls.now) (drop p.out t.outs.now) (drop p.out2 t.outs2.now) (drop p.mark t.marks.now) (length (drop (4 * p.ran) t.answers.now))
 
 -- The same slices: nothing is written to the calls and the marks.
 pub record Same (t₀ t : Tape) : Type 0 where
@@ -80,12 +75,12 @@ pub record AllRan (t₀ : Tape) (m₀ : ListOrderedMultimap) (t : Tape) (m : Lis
 -- A run that began with t₀ and m₀ stands at p with t and m.
 pub record At (t₀ : Tape) (m₀ : ListOrderedMultimap) (p : Place) (t : Tape) (m : ListOrderedMultimap) : Type 0 where
   pub same : Same t₀ t
-  pub reached : Reached linked t₀.calls.now t₀.outs.now t₀.outs2.now t₀.marks.now t₀.answers.now m₀ t.outs.now t.outs2.now t.answers.now m p.call p.out p.out2 p.mark p.answer p.ran
+  pub reached : Reached linked t₀.calls.now t₀.outs.now t₀.outs2.now t₀.marks.now t₀.answers.now m₀ t.outs.now t.outs2.now t.answers.now m (7 * p.ran) p.out p.out2 p.mark (4 * p.ran) p.ran
 
 -- A call was made, from p to q: every run that stands at p stands at q now.
 pub record Onward (p : Place) (t : Tape) (m : ListOrderedMultimap) (q : Place) (t' : Tape) (m' : ListOrderedMultimap) : Type 0 where
   pub keeps : (t₀ : Tape) (m₀ : ListOrderedMultimap) → At t₀ m₀ p t m → At t₀ m₀ q t' m'
-  pub onward : p.call + 7 ≤ q.call
+  pub onward : p.ran + 1 ≤ q.ran
 
 -- The list does not go on, and nothing is changed.
 pub record Ended (p : Place) (t : Tape) (m : ListOrderedMultimap) (t' : Tape) (m' : ListOrderedMultimap) : Type 0 where

@@ -59,15 +59,13 @@ struct Head {
     n3: u64,
 }
 
-// Where a run stands in its slices, and how many calls it has run.
+// Where a run stands in its slices, and how many calls it has run, each of seven numbers, and with an answer of four.
 #[derive(Clone, Copy)]
 struct Place {
-    call: usize,
     out: usize,
     out2: usize,
     mark: usize,
-    answer: usize,
-    ran: u64,
+    ran: usize,
 }
 
 // Reads the seven numbers of the call that the list goes on with, if it does.
@@ -116,11 +114,9 @@ fn after(p: Place, h: Head) -> Place
     ensures { Past p h result }
 {
     Place {
-        call: p.call + 7,
         out: p.out + h.n as usize,
         out2: p.out2 + h.n2 as usize,
         mark: p.mark + h.n3 as usize,
-        answer: p.answer + 4,
         ran: p.ran + 1,
     }
 }
@@ -132,17 +128,15 @@ impl Tape<'_> {
         ensures { AllRan self.old map.old self.new map.new result }
     {
         let mut p = Place {
-            call: 0,
             out: 0,
             out2: 0,
             mark: 0,
-            answer: 0,
             ran: 0,
         };
         while let Some(next) = self.advance(map, p) {
             p = next;
         }
-        p.ran
+        p.ran as u64
     }
 
     // Makes the next call, where the list goes on with one, and gives the place after it.
@@ -150,11 +144,11 @@ impl Tape<'_> {
         requires { WellLinked map.old × Within p self.old }
         ensures { Advanced p self.old map.old result self.new map.new }
     {
-        let h = read_head(&self.calls[p.call..])?;
+        let h = read_head(&self.calls[7 * p.ran..])?;
         let room = (self.outs.len() - p.out) as u64;
         let room2 = (self.outs2.len() - p.out2) as u64;
         let room3 = (self.marks.len() - p.mark) as u64;
-        let space = (self.answers.len() - p.answer) as u64;
+        let space = (self.answers.len() - 4 * p.ran) as u64;
         if !fits(h, room, room2, room3, space) {
             return None;
         }
@@ -165,7 +159,7 @@ impl Tape<'_> {
             &mut self.outs[p.out..q.out],
             &mut self.outs2[p.out2..q.out2],
             &self.marks[p.mark..q.mark],
-            &mut self.answers[p.answer..q.answer],
+            &mut self.answers[4 * p.ran..4 * q.ran],
         );
         Some(q)
     }

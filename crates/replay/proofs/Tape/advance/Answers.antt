@@ -1,6 +1,6 @@
 -- `replay::Tape::advance` meets its contract, by the laws of proofs/Places.antt. Assumes nothing.
 use mathlib.Core.Path.{refl, sym, ◌∙◌}
-use Prim.Native.Nat.{◌-◌}
+use Prim.Native.Nat.{◌*◌, ◌-◌}
 use native.Mathlib.Omega.{arith}
 use lib.ListN.{length}
 use Rattle.replay.proofs.Tapes.{Fits, fits_says}
@@ -18,7 +18,7 @@ after-q-requires c =
     let p = c.args.p in
     let t = c.args.self.now in
     let h = c.in_ok-h.h in
-    let fit : Fits h.op h.n h.n2 h.n3 (length t.outs.now - p.out) (length t.outs2.now - p.out2) (length t.marks.now - p.mark) (length t.answers.now - p.answer) =
+    let fit : Fits h.op h.n h.n2 h.n3 (length t.outs.now - p.out) (length t.outs2.now - p.out2) (length t.marks.now - p.mark) (length t.answers.now - (4 * p.ran)) =
     fits_says _ _ _ _ _ _ _ _ (sym c.fits.ensures ∙ c.if-not-fits.false) in
     omega (arith, fit, c.requires.1)
 
@@ -39,7 +39,7 @@ turn-requires c =
     let p = c.args.p in
     let q = c.after-q.result in
     ready p c.args.self.now _ _ c.in_ok-h.ensures (sym c.fits.ensures ∙ c.if-not-fits.false)
-    (q.out - p.out) (q.out2 - p.out2) (q.mark - p.mark) (q.answer - p.answer) (omega (arith, c.after-q.ensures)) (omega (arith, c.after-q.ensures)) (omega (arith, c.after-q.ensures)) (omega (arith, c.after-q.ensures)) c.requires.0
+    (q.out - p.out) (q.out2 - p.out2) (q.mark - p.mark) ((4 * q.ran) - (4 * p.ran)) (omega (arith, c.after-q.ensures)) (omega (arith, c.after-q.ensures)) (omega (arith, c.after-q.ensures)) (omega (arith, c.after-q.ensures)) c.requires.0
 
 pub returns : goal.returns
 returns c =

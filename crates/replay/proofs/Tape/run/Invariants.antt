@@ -1,4 +1,4 @@
-use Prim.Native.Nat.{◌-◌}
+use Prim.Native.Nat.{◌*◌, ◌-◌}
 use lib.ListN.{length}
 use Rattle.replay.specs.Place.{At}
 use Rattle.replay.proofs.Tape.run.Given as goal
@@ -8,4 +8,4 @@ invariant-loop-next l =
     At l.initial.self l.initial.map l.p l.self l.map
 
 abbrev pub decreases-loop-next : goal.decreases-loop-next
-decreases-loop-next l = length l.self.calls.now - l.p.call
+decreases-loop-next l = length l.self.calls.now - (7 * l.p.ran)
