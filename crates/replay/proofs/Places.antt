@@ -14,7 +14,7 @@ use Rattle.multimap.specs.declared.ListOrderedMultimap.{ListOrderedMultimap}
 use Rattle.steps.specs.Told.{Told}
 use Rattle.steps.specs.Call.{call_of, lends, lends_two}
 use Rattle.turn.specs.Turned.{Turned, had}
-use Rattle.replay.specs.Place.{head_of, fits_head, Ready, Past, Within, rest, Same, At, AllRan, Onward, Ended}
+use Rattle.replay.specs.Place.{head_of, fits_at, Ready, Past, Within, rest, Same, At, AllRan, Onward, Ended}
 use Rattle.replay.specs.declared.Head.{Head}
 use Rattle.replay.specs.declared.Place.{Place}
 use Rattle.replay.specs.declared.Tape.{Tape}
@@ -31,6 +31,15 @@ same_on a b =
       outs2 = b.outs2 ∙ a.outs2;
       answers = b.answers ∙ a.answers;
     }
+
+-- what there is room for from p on, where a call fits
+abbrev Room : Place → Head → Tape → Type 0
+Room p h t =
+    Fits h.op h.n h.n2 h.n3 (length t.outs.now - p.out) (length t.outs2.now - p.out2) (length t.marks.now - p.mark) (length t.answers.now - 4 * p.ran)
+
+pub room_at : (p : Place) (h : Head) (t : Tape) → fits_at p h t ≡ true → Room p h t
+room_at p h t f =
+    fits_says h.op h.n h.n2 h.n3 (length t.outs.now - p.out) (length t.outs2.now - p.out2) (length t.marks.now - p.mark) (length t.answers.now - 4 * p.ran) f
 
 -- the part of a slice from i on, as it is lent
 abbrev ahead : ℕ → List ℕ → List ℕ
@@ -55,12 +64,12 @@ module _ (p : Place) (t : Tape) (m : ListOrderedMultimap) where
         head_says (drop (7 * p.ran) t.calls.now) h (sym (rw (ahead_is (7 * p.ran) t.calls.now) at is))
         ∙ ap (λ (l : List ℕ). h.op ∷ h.poster ∷ h.k ∷ h.v ∷ h.n ∷ h.n2 ∷ h.n3 ∷ l) (drop-drop 7 (7 * p.ran) t.calls.now)
 
-    pub stops_not : fits_head h (length t.outs.now - p.out) (length t.outs2.now - p.out2) (length t.marks.now - p.mark) (length t.answers.now - (4 * p.ran)) ≡ false → Ended p t m t m
+    pub stops_not : fits_at p h t ≡ false → Ended p t m t m
     stops_not f = stays (ended_not t.calls.now t.outs.now t.outs2.now t.marks.now t.answers.now (7 * p.ran) p.out p.out2 p.mark (4 * p.ran) h.op h.poster h.k h.v h.n h.n2 h.n3 (drop ((7 * p.ran) + 7) t.calls.now) numbers f)
 
-    module _ (f : fits_head h (length t.outs.now - p.out) (length t.outs2.now - p.out2) (length t.marks.now - p.mark) (length t.answers.now - (4 * p.ran)) ≡ true) where
-      pub room : Fits h.op h.n h.n2 h.n3 (length t.outs.now - p.out) (length t.outs2.now - p.out2) (length t.marks.now - p.mark) (length t.answers.now - (4 * p.ran))
-      room = fits_says h.op h.n h.n2 h.n3 (length t.outs.now - p.out) (length t.outs2.now - p.out2) (length t.marks.now - p.mark) (length t.answers.now - (4 * p.ran)) f
+    module _ (f : fits_at p h t ≡ true) where
+      room : Room p h t
+      room = room_at p h t f
 
       -- n, n2, n3 and b are the lengths of the parts that are lent
       module _ (n n2 n3 b : ℕ) (n_is : n ≡ h.n) (n2_is : n2 ≡ h.n2) (n3_is : n3 ≡ h.n3) (b_is : b ≡ 4) where
@@ -148,11 +157,10 @@ pub record Reach (p : Place) (h : Head) (q : Place) (t : Tape) : Type 0 where
   pub answer : ((4 * p.ran) ≤ (4 * q.ran)) × ((4 * q.ran) ≤ length t.answers.now)
 
 pub reach : {p : Place} {h : Head} {q : Place} {t : Tape} → Within p t
-    → fits_head h (length t.outs.now - p.out) (length t.outs2.now - p.out2) (length t.marks.now - p.mark) (length t.answers.now - (4 * p.ran)) ≡ true → Past p h q
+    → fits_at p h t ≡ true → Past p h q
     → Reach p h q t
 reach {p} {h} {q} {t} w f past =
-    let fit : Fits h.op h.n h.n2 h.n3 (length t.outs.now - p.out) (length t.outs2.now - p.out2) (length t.marks.now - p.mark) (length t.answers.now - (4 * p.ran)) =
-    fits_says h.op h.n h.n2 h.n3 (length t.outs.now - p.out) (length t.outs2.now - p.out2) (length t.marks.now - p.mark) (length t.answers.now - (4 * p.ran)) f in
+    let fit = room_at p h t f in
     record {
       out = omega (arith, w, fit, past);
       out2 = omega (arith, w, fit, past);

@@ -1,5 +1,5 @@
 -- Where a run of a list of calls stands in its slices, and what the functions that move it on ensure.
-use Rattle.std.specs.Prelude.{◌≡◌, Bool, false, List, [], ◌∷◌, ℕ, Option, Some, None, ◌+◌, ◌*◌, ◌≤◌, ◌<◌, length, drop}
+use Rattle.std.specs.Prelude.{◌≡◌, Bool, false, List, [], ◌∷◌, ℕ, Option, Some, None, ◌+◌, ◌*◌, ◌-◌, ◌≤◌, ◌<◌, length, drop}
 use Rattle.steps.specs.Call.{Call, lends, lends_two}
 use Rattle.multimap.specs.WellLinked.{WellLinked, linked}
 use Rattle.multimap.specs.declared.ListOrderedMultimap.{ListOrderedMultimap}
@@ -21,9 +21,6 @@ head_of (a ∷ b ∷ c ∷ d ∷ e ∷ f ∷ g ∷ l) = Some (record { op = a; p
 
 abbrev pub known_head : Head → Bool
 known_head h = known h.op h.n h.n2 h.n3
-
-abbrev pub fits_head : Head → ℕ → ℕ → ℕ → ℕ → Bool
-fits_head h room room2 room3 space = fits h.op h.n h.n2 h.n3 room room2 room3 space
 
 -- A call that may be made: there is one of this number, and its slices are empty where it has none.
 pub record Ready (m : ListOrderedMultimap) (op : ℕ) (out out2 : List ℕ) : Type 0 where
@@ -53,6 +50,11 @@ pub record Within (p : Place) (t : Tape) : Type 0 where
   pub out2 : p.out2 ≤ length t.outs2.now
   pub mark : p.mark ≤ length t.marks.now
   pub answer : 4 * p.ran ≤ length t.answers.now
+
+-- Are the slices and marks of a call all there from p on, and room for its answer?
+abbrev pub fits_at : Place → Head → Tape → Bool
+fits_at p h t =
+    fits h.op h.n h.n2 h.n3 (length t.outs.now - p.out) (length t.outs2.now - p.out2) (length t.marks.now - p.mark) (length t.answers.now - 4 * p.ran)
 
 -- The calls that the slices hold from p on.
 abbrev pub rest : Place → Tape → List Call

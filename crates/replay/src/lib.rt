@@ -8,7 +8,7 @@ ghost use Rattle.steps.specs.Call.{call_of, lends as lends_of};
 ghost use Rattle.steps.specs.Told.{Told};
 ghost use Rattle.multimap.specs.declared.ListOrderedMultimap.{ListOrderedMultimap};
 ghost use Rattle.multimap.specs.WellLinked.{WellLinked, linked};
-ghost use Rattle.replay.specs.Place.{head_of, known_head, fits_head, Ready, Small, Past, Within, AllRan, Advanced};
+ghost use Rattle.replay.specs.Place.{head_of, known_head, fits_at, Ready, Small, Past, Within, AllRan, Advanced};
 ghost use Rattle.replay.specs.Played.{Played};
 
 use multimap::ListOrderedMultimap;
@@ -101,14 +101,6 @@ fn known(h: Head) -> bool
     h.op < 24 && (lends(h.op) || h.n == 0) && (h.op == 22 || h.n2 == 0) && (h.op == 12 || h.n3 == 0)
 }
 
-// Says whether its slices and marks are all there, and room for its answer.
-#[tactic(auto, unfolding(crate::specs::Tape::fits))]
-fn fits(h: Head, room: u64, room2: u64, room3: u64, space: u64) -> bool
-    ensures { result ≡ fits_head h room room2 room3 space }
-{
-    known(h) && h.n <= room && h.n2 <= room2 && h.n3 <= room3 && 4 <= space
-}
-
 fn after(p: Place, h: Head) -> Place
     requires { Small p h }
     ensures { Past p h result }
@@ -145,11 +137,7 @@ impl Tape<'_> {
         ensures { Advanced p self.old map.old result self.new map.new }
     {
         let h = read_head(&self.calls[7 * p.ran..])?;
-        let room = (self.outs.len() - p.out) as u64;
-        let room2 = (self.outs2.len() - p.out2) as u64;
-        let room3 = (self.marks.len() - p.mark) as u64;
-        let space = (self.answers.len() - 4 * p.ran) as u64;
-        if !fits(h, room, room2, room3, space) {
+        if !self.fits(p, h) {
             return None;
         }
         let q = after(p, h);
@@ -162,6 +150,19 @@ impl Tape<'_> {
             &mut self.answers[4 * p.ran..4 * q.ran],
         );
         Some(q)
+    }
+
+    // Says whether the call's slices and marks are all there from p on, and room for its answer.
+    #[tactic(auto, unfolding(crate::specs::Tape::fits))]
+    fn fits(&self, p: Place, h: Head) -> bool
+        requires { Within p self.now }
+        ensures { result ≡ fits_at p h self.now }
+    {
+        known(h)
+            && h.n <= (self.outs.len() - p.out) as u64
+            && h.n2 <= (self.outs2.len() - p.out2) as u64
+            && h.n3 <= (self.marks.len() - p.mark) as u64
+            && 4 <= self.answers.len() - 4 * p.ran
     }
 }
 

@@ -2,9 +2,7 @@
 use mathlib.Core.Path.{refl, sym, ◌∙◌}
 use Prim.Native.Nat.{◌*◌, ◌-◌}
 use native.Mathlib.Omega.{arith}
-use lib.ListN.{length}
-use Rattle.replay.proofs.Tapes.{Fits, fits_says}
-use Rattle.replay.proofs.Places.{stops_short, stops_not, ready, goes_on, reach}
+use Rattle.replay.proofs.Places.{room_at, stops_short, stops_not, ready, goes_on, reach}
 use Rattle.replay.proofs.Tape.advance.Goals as goal
 
 pub returns-in_err-h : goal.returns-in_err-h
@@ -14,13 +12,7 @@ pub returns-then-not-fits : goal.returns-then-not-fits
 returns-then-not-fits c = stops_not c.args.p c.args.self.now _ _ c.in_ok-h.ensures (sym c.fits.ensures ∙ c.if-not-fits.true)
 
 pub after-q-requires : goal.after-q-requires
-after-q-requires c =
-    let p = c.args.p in
-    let t = c.args.self.now in
-    let h = c.in_ok-h.h in
-    let fit : Fits h.op h.n h.n2 h.n3 (length t.outs.now - p.out) (length t.outs2.now - p.out2) (length t.marks.now - p.mark) (length t.answers.now - (4 * p.ran)) =
-    fits_says _ _ _ _ _ _ _ _ (sym c.fits.ensures ∙ c.if-not-fits.false) in
-    omega (arith, fit, c.requires.1)
+after-q-requires c = omega (arith, room_at c.args.p c.in_ok-h.h c.args.self.now (sym c.fits.ensures ∙ c.if-not-fits.false), c.requires.1)
 
 pub slice_bounds-turn-end : goal.slice_bounds-turn-end
 slice_bounds-turn-end c = omega (arith, reach c.requires.1 (sym c.fits.ensures ∙ c.if-not-fits.false) c.after-q.ensures)
