@@ -124,12 +124,6 @@ module _ (p : Place) (t : Tape) (m : ListOrderedMultimap) where
                 (rw (← v.same.calls, ← v.same.marks) at v.reached) m' h.op h.poster h.k h.v n n2 n3 o o2 k (rw (n_is, n2_is, n3_is) numbers)
                 (rw (n_is, n2_is, n3_is) f) (ol ∙ part) (o2l ∙ part2) told)
 
--- where a run stands is within its slices
-pub at_within : {t₀ : Tape} {m₀ : ListOrderedMultimap} {p : Place} {t : Tape} {m : ListOrderedMultimap} → At t₀ m₀ p t m → Within p t
-at_within v =
-    let r = v.reached in
-    record { call = rw v.same.calls r.i_in; out = r.at_in; out2 = r.at2_in; mark = rw v.same.marks r.at3_in; answer = r.a_in }
-
 -- a call that was made leaves fewer to come
 pub nearer : {t₀ : Tape} {m₀ : ListOrderedMultimap} {p : Place} {t : Tape} {m : ListOrderedMultimap} {q : Place} {t' : Tape} {m' : ListOrderedMultimap}
     → At t₀ m₀ p t m → Onward p t m q t' m' → length t'.calls.now - (7 * q.ran) < length t.calls.now - (7 * p.ran)

@@ -48,7 +48,6 @@ module _ {Map : Type 0} (M : Kind Map) where
         at2_in = omega arith;
         at3_in = omega arith;
         a_in = omega arith;
-        ran_is = refl;
         outs_len = refl;
         outs2_len = refl;
         ans_len = refl;
@@ -118,7 +117,6 @@ module _ {Map : Type 0} (M : Kind Map) where
             at2_in = omega (arith, length_mid outs2 o2 at2 n2 outs2_in o2_len, outs2_in);
             at3_in = marks_in;
             a_in = omega (arith, length_mid ans k a 4 ans_in k_len, ans_in);
-            ran_is = omega (arith, v.ran_is);
             outs_len = length_mid outs o at n outs_in o_len ∙ v.outs_len;
             outs2_len = length_mid outs2 o2 at2 n2 outs2_in o2_len ∙ v.outs2_len;
             ans_len = length_mid ans k a 4 ans_in k_len ∙ v.ans_len;

@@ -1,7 +1,7 @@
 -- A list of calls held in slices, and what a run of it leaves in them, for any kind of map. Seven numbers for each call: its number in call_of's
 -- table (crate steps), its poster, its arguments k and v, and the lengths of its out slice, its second out slice and its marks. The out slices, the
 -- second ones and the marks stand one after the other, each kind in a slice of its own. An answer is four numbers.
-use Rattle.std.specs.Prelude.{◌≡◌, Bool, cond, ◌&&◌, ◌||◌, List, [], ◌∷◌, ◌++◌, ℕ, ◌+◌, ◌*◌, ◌-◌, ◌≤◌, eqb, leb, ltb, length, take, drop}
+use Rattle.std.specs.Prelude.{◌≡◌, Bool, cond, ◌&&◌, ◌||◌, List, [], ◌∷◌, ◌++◌, ℕ, ◌+◌, ◌-◌, ◌≤◌, eqb, leb, ltb, length, take, drop}
 use Rattle.steps.specs.Call.{Call, Outcome, call_of, lends, lends_two, has_marks}
 use Rattle.steps.specs.Step.{over}
 use Rattle.steps.specs.Trace.{Kind, Trace}
@@ -60,7 +60,6 @@ module _ {Map : Type 0} (M : Kind Map) where
     pub at2_in : at2 ≤ length outs2
     pub at3_in : at3 ≤ length marks
     pub a_in : a ≤ length ans
-    pub ran_is : 4 * ran ≡ a
     pub outs_len : length outs ≡ length outs₀
     pub outs2_len : length outs2 ≡ length outs2₀
     pub ans_len : length ans ≡ length ans₀
