@@ -17,7 +17,7 @@ pub fn append(map: &mut ListOrderedMultimap, poster: u64, k: u64, v: u64) -> Res
     ensures { Calls (C.append poster k v) map.old (say (answered C.present result)) map.new }
 {
     check_poster(poster)?;
-    match index::find(&map.index, &map.keys, k) {
+    match map.find(k) {
         Found::At(_, key, _) => {
             if map.rounds.is_full() {
                 return Err(Refusal::Full);

@@ -23,7 +23,7 @@ pub fn insert(
     ensures { Calls (C.insert poster k v) map.old (say (answered round_of result)) map.new }
 {
     adding::check_poster(poster)?;
-    match index::find(&map.index, &map.keys, k) {
+    match map.find(k) {
         Found::At(_, key, _) => {
             let first = map.round(map.head(key));
             replace(map, poster, key, v);

@@ -24,7 +24,7 @@ pub fn insert_all(
     ensures { Calls (C.insert_all poster k v out.old) map.old (write (answered C.count result) out.new) map.new }
 {
     adding::check_poster(poster)?;
-    match index::find(&map.index, &map.keys, k) {
+    match map.find(k) {
         Found::At(_, key, _) => {
             let head = map.head(key);
             let size = map.size(key);

@@ -7,6 +7,10 @@ use Rattle.links.specs.declared.Counts.{Counts}
 abbrev pub up : ℕ → ℕ
 up n = min (n + 1) 65535
 
+-- the counts of a list with no place in use, and its limit
+abbrev pub unused : ℕ → Counts
+unused limit = record { len = 0; fresh = 0; free = 0; limit = limit }
+
 -- the counts once x is free
 abbrev pub freeing_in : {P : Type 0} → (P → ℕ) → Counts → P → Counts
 freeing_in number cs x = record { len = cs.len - 1; fresh = cs.fresh; free = number x; limit = cs.limit }

@@ -6,12 +6,13 @@ ghost use Rattle.std.specs.Prelude.{◌≡◌, ltb};
 ghost use Rattle.steps.specs.State.{empty, limit};
 ghost use Rattle.steps.specs.Step.{too_high, make_of};
 ghost use Rattle.steps.specs.Proper.{Allowed};
+ghost use Rattle.index.specs.Search.{search as searched};
 ghost use Rattle.links.specs.Stores.{at};
 ghost use Rattle.multimap.specs.Changes.{base_of};
 ghost use Rattle.multimap.specs.Map.{state_of};
 ghost use Rattle.multimap.specs.WellLinked.{WellLinked};
 
-use index::KeyPlace;
+use index::{Found, KeyPlace};
 use links::{Counts, Place};
 use std::marker::Model;
 
@@ -77,6 +78,27 @@ pub struct ListOrderedMultimap {
 }
 
 impl ListOrderedMultimap {
+    // Searches for a member.
+    pub fn find(&self, k: u64) -> Found
+        ensures { result ≡ searched self.now.index self.now.keys k }
+    {
+        index::find(&self.index, &self.keys, k)
+    }
+
+    // Gives the place of the first round, and the end cell where there is none.
+    pub fn first_round(&self) -> ValuePlace
+        ensures { result ≡ at self.now.next_value 1024 }
+    {
+        links::after(&self.next_value, ValuePlace(ROUNDS))
+    }
+
+    // Gives the place of the first member, and the end cell where there is none.
+    pub fn first_member(&self) -> KeyPlace
+        ensures { result ≡ at self.now.next_key 256 }
+    {
+        links::after(&self.next_key, KeyPlace::new(MEMBERS))
+    }
+
     // Gives the place of a member's first round.
     pub fn head(&self, key: KeyPlace) -> ValuePlace
         ensures { result ≡ at self.now.next_index (base_of key) }
@@ -164,19 +186,9 @@ fn bare(keys_limit: u16, values_limit: u16) -> ListOrderedMultimap
         previous_value: [first_value; 1025],
         next_index: [first_value; 1280],
         previous_index: [first_value; 1280],
-        index: [index::EMPTY; 512],
-        members: Counts {
-            len: 0,
-            fresh: 0,
-            free: 0,
-            limit: keys_limit,
-        },
-        rounds: Counts {
-            len: 0,
-            fresh: 0,
-            free: 0,
-            limit: values_limit,
-        },
+        index: index::empty(),
+        members: Counts::unused(keys_limit),
+        rounds: Counts::unused(values_limit),
         taken: [0; 16],
     };
     out.next_key[256] = KeyPlace::new(MEMBERS);

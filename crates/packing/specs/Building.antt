@@ -3,11 +3,11 @@ use Rattle.std.specs.Prelude.{ℕ, suc, ◌≤◌, ◌<◌, ◌≡◌, ◌≢◌
 use Rattle.steps.specs.State.{Limits}
 use Rattle.links.specs.Route.{tally, walk}
 use Rattle.links.specs.Places.{order}
+use Rattle.links.specs.Stores.{unused}
 use Rattle.multimap.specs.declared.ListOrderedMultimap.{ListOrderedMultimap}
 use Rattle.multimap.specs.Map.{at, pairs, members, rounds_of, members_of, limits_of, state_of}
 use Rattle.multimap.specs.Sweep.{Sound}
 use Rattle.multimap.specs.WellLinked.{WellLinked, Packed}
-use Rattle.packing.specs.Cleared.{unused}
 
 -- 0, 1, .. n - 1
 abbrev pub up_to : ℕ → List ℕ

@@ -1,12 +1,8 @@
 -- A map with no place in use.
 use Rattle.std.specs.Prelude.{ℕ, replicate, set}
-use Rattle.links.specs.declared.Counts.{Counts}
+use Rattle.links.specs.Stores.{unused}
 use Rattle.index.specs.Table.{empty_index}
 use Rattle.multimap.specs.declared.ListOrderedMultimap.{ListOrderedMultimap}
-
--- The counts of a list with no place in use, and its limit.
-abbrev pub unused : ℕ → Counts
-unused limit = record { len = 0; fresh = 0; free = 0; limit = limit }
 
 -- The end cells lead to themselves, no place is in use or ever was, and the index is as it begins. The limits stay, and what else there is.
 abbrev pub cleared : ListOrderedMultimap → ListOrderedMultimap

@@ -13,7 +13,7 @@ ghost use Rattle.multimap.specs.Making.{Makes};
 ghost use Rattle.multimap.specs.Map.{limits_of};
 ghost use Rattle.multimap.specs.WellLinked.{Calls, WellLinked, linked};
 ghost use Rattle.packing.specs.Building.{listed, Distinct, MembersCopied, RoundsCopied, Seated, Apart, Fillable, Filled, Repacked};
-ghost use Rattle.packing.specs.Cleared.{cleared, unused, zeros};
+ghost use Rattle.packing.specs.Cleared.{cleared, zeros};
 
 use answers::Refusal;
 use index::{Found, KeyPlace};
@@ -111,20 +111,8 @@ fn vacate(map: &mut ListOrderedMultimap)
     map.next_value[1024] = ValuePlace::new(ROUNDS);
     map.previous_value[1024] = ValuePlace::new(ROUNDS);
     map.index = index::empty();
-    map.members = unused(map.members.limit);
-    map.rounds = unused(map.rounds.limit);
-}
-
-// Gives the counts of a list that has this limit, and no place in use.
-fn unused(limit: u16) -> Counts
-    ensures { result ≡ unused limit }
-{
-    Counts {
-        len: 0,
-        fresh: 0,
-        free: 0,
-        limit,
-    }
+    map.members = Counts::unused(map.members.limit);
+    map.rounds = Counts::unused(map.rounds.limit);
 }
 
 // Copies the map out, and takes it in again from the empty map on: places are taken from 0 on then. T is set apart.
@@ -153,7 +141,7 @@ fn copy_members(map: &ListOrderedMultimap, numbers: &mut [u64; 256], ranks: &mut
     requires { Distinct (listed map.now.next_key 256 map.now.members.len) 256 }
     ensures { let ks : List ℕ = listed map.now.next_key 256 map.now.members.len in MembersCopied map.now.keys ks (length ks) numbers.new ranks.new }
 {
-    let mut x = links::after(&map.next_key, KeyPlace::new(MEMBERS));
+    let mut x = map.first_member();
     for i in 0..map.members.len {
         links::put(numbers, i as usize, map.member(x));
         links::put(ranks, x.index(), KeyPlace::new(i));
@@ -172,7 +160,7 @@ fn copy_rounds(
     ensures copied { let vs : List ℕ = listed map.now.next_value 1024 map.now.rounds.len in RoundsCopied map.now.values map.now.key_index ranks.now vs (length vs) owners.new scores.new }
     ensures owners_long { length owners.new ≡ 1024 }
 {
-    let mut x = links::after(&map.next_value, ValuePlace::new(ROUNDS));
+    let mut x = map.first_round();
     for i in 0..map.rounds.len as usize {
         links::put(owners, i, links::after(ranks, map.owner(x)));
         links::put(scores, i, map.round(x));
@@ -186,7 +174,7 @@ fn seat(map: &mut ListOrderedMultimap, numbers: &[u64])
     ensures { Seated numbers.now (limits_of map.old) (length numbers.now) map.new }
 {
     for k in numbers {
-        let Found::Absent(at, _) = index::find(&map.index, &map.keys, *k) else {
+        let Found::Absent(at, _) = map.find(*k) else {
             return;
         };
         changing::join(map, *k, at);

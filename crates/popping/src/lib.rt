@@ -12,14 +12,13 @@ ghost use Rattle.multimap.specs.Popping.{pop_of};
 ghost use Rattle.multimap.specs.WellLinked.{Calls};
 
 use answers::Popped;
-use links::Place;
-use multimap::{ListOrderedMultimap, ROUNDS, ValuePlace};
+use multimap::{ListOrderedMultimap, ValuePlace};
 
 // Takes the first round out.
 pub fn pop_front(map: &mut ListOrderedMultimap) -> Option<Popped>
     ensures { Calls C.pop_front map.old (say (popped_of result)) map.new }
 {
-    let first = links::after(&map.next_value, ValuePlace::new(ROUNDS));
+    let first = map.first_round();
     pop(map, first)
 }
 

@@ -10,15 +10,14 @@ ghost use Rattle.reading.specs.Reads.{Reads, pairs_written};
 ghost use Rattle.reading.specs.Entry.{entry_in};
 
 use answers::{Entry, Refusal};
-use index::{Found, KeyPlace};
-use links::Place;
-use multimap::{ListOrderedMultimap, MEMBERS, ROUNDS, ValuePlace};
+use index::Found;
+use multimap::ListOrderedMultimap;
 
 // Gives the member's first round.
 pub fn get(map: &ListOrderedMultimap, k: u64) -> Option<u64>
     ensures { Reads (C.get k) (say (round_of result)) map.now }
 {
-    let Found::At(_, key, _) = index::find(&map.index, &map.keys, k) else {
+    let Found::At(_, key, _) = map.find(k) else {
         return None;
     };
     Some(map.round(map.head(key)))
@@ -28,7 +27,7 @@ pub fn get(map: &ListOrderedMultimap, k: u64) -> Option<u64>
 pub fn get_all(map: &ListOrderedMultimap, k: u64, out: &mut [u64]) -> Result<usize, Refusal>
     ensures { Reads (C.get_all k out.old) (write (answered C.count result) out.new) map.now }
 {
-    let Found::At(_, key, _) = index::find(&map.index, &map.keys, k) else {
+    let Found::At(_, key, _) = map.find(k) else {
         return Ok(0);
     };
     copying::copy(
@@ -45,7 +44,7 @@ pub fn entry(map: &ListOrderedMultimap, k: u64) -> Entry
     ensures found { entry_of result ≡ entry_in map.now k }
     ensures reads { Reads (C.entry k) (say (entry_of result)) map.now }
 {
-    match index::find(&map.index, &map.keys, k) {
+    match map.find(k) {
         Found::At(_, key, _) => Entry::Occupied(map.size(key) as usize),
         Found::Absent(_, _) => Entry::Vacant(k),
     }
@@ -72,8 +71,13 @@ pub fn contains_key(map: &ListOrderedMultimap, k: u64) -> bool
 pub fn keys(map: &ListOrderedMultimap, out: &mut [u64]) -> Result<usize, Refusal>
     ensures { Reads (C.keys out.old) (write (answered C.count result) out.new) map.now }
 {
-    let first = links::after(&map.next_key, KeyPlace::new(MEMBERS));
-    copying::copy(&map.keys, &map.next_key, first, map.members.len, out)
+    copying::copy(
+        &map.keys,
+        &map.next_key,
+        map.first_member(),
+        map.members.len,
+        out,
+    )
 }
 
 // Says how many members there are.
@@ -102,7 +106,7 @@ pub fn iter(
     if members.len() < end || rounds.len() < end {
         return Err(Refusal::Short);
     }
-    let mut x = links::after(&map.next_value, ValuePlace::new(ROUNDS));
+    let mut x = map.first_round();
     // Goes by an index, since a proof knows nothing of what is written through a `zip` of `iter_mut`.
     for i in 0..end {
         members[i] = map.member(map.owner(x));

@@ -16,7 +16,7 @@ use multimap::ListOrderedMultimap;
 pub fn remove(map: &mut ListOrderedMultimap, k: u64) -> Option<u64>
     ensures { Calls (C.remove k) map.old (say (round_of result)) map.new }
 {
-    let Found::At(_, key, _) = index::find(&map.index, &map.keys, k) else {
+    let Found::At(_, key, _) = map.find(k) else {
         return None;
     };
     let round = map.round(map.head(key));
@@ -28,7 +28,7 @@ pub fn remove(map: &mut ListOrderedMultimap, k: u64) -> Option<u64>
 pub fn remove_all(map: &mut ListOrderedMultimap, k: u64, out: &mut [u64]) -> Result<usize, Refusal>
     ensures { Calls (C.remove_all k out.old) map.old (write (answered C.count result) out.new) map.new }
 {
-    let Found::At(_, key, _) = index::find(&map.index, &map.keys, k) else {
+    let Found::At(_, key, _) = map.find(k) else {
         return Ok(0);
     };
     let head = map.head(key);

@@ -13,7 +13,7 @@ pub returns : goal.returns
 returns c =
     let last = λ (n i x : ℕ) (l : i < n). get_or-set_same (replicate n 0) i x 0 (rw (length-replicate {A = ℕ} n 0) l) in
     let long = λ (n i x : ℕ). length-set (replicate n 0) i x ∙ length-replicate {A = ℕ} n 0 in
-    rw (c.new-first_key.ensures, c.new.ensures, c.new-2.ensures)
+    rw (c.new-first_key.ensures, c.empty.ensures, c.unused.ensures, c.unused-2.ensures, c.new.ensures, c.new-2.ensures)
     (empty_map _ refl refl (replicate 16 0) refl refl refl (last 1025 1024 1024 (omega arith)) (last 1025 1024 1024 (omega arith))
     (last 257 256 256 (omega arith)) (last 257 256 256 (omega arith))
     record {

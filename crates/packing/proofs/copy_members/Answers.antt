@@ -7,7 +7,7 @@ loop-i-preserved c =
     let m = c.args.map.now in
     members_more m.keys m.next_key m.members.len c.loop-i.numbers c.loop-i.ranks c.loop-i.i c.loop-i.x
     c.loop-i.invariant c.requires c.loop-i-test.true c.member.ensures c.put.ensures
-    (cc) c.after-x-in-loop-i.ensures
+    (cc) c.after-x.ensures
 
 pub returns : goal.returns
 returns c =

@@ -7,7 +7,7 @@ loop-i-preserved c =
     let m = c.args.map.now in
     rounds_more m.values m.key_index m.next_value m.rounds.len c.args.ranks.now c.loop-i.owners c.loop-i.scores c.loop-i.i c.loop-i.x
     c.loop-i.invariant c.requires c.loop-i-test.true c.owner.ensures c.after.ensures c.round.ensures c.put.ensures c.put-in-loop-i.ensures
-    c.after-x-in-loop-i.ensures
+    c.after-x.ensures
 
 pub returns-clause-copied : goal.returns-clause-copied
 returns-clause-copied c =

@@ -21,8 +21,8 @@ returns-then-members-end c =
 pub loop-i-preserved : goal.loop-i-preserved
 loop-i-preserved c =
     let inv = c.loop-i.invariant in (
-      one_copied inv.0 c.loop-i-test.true (c.member.ensures ∙ ap (at c.args.map.now.keys) c.owner.ensures) c.after-x-in-loop-i.ensures,
-      one_copied inv.1 c.loop-i-test.true c.round.ensures c.after-x-in-loop-i.ensures,
+      one_copied inv.0 c.loop-i-test.true (c.member.ensures ∙ ap (at c.args.map.now.keys) c.owner.ensures) c.after-x.ensures,
+      one_copied inv.1 c.loop-i-test.true c.round.ensures c.after-x.ensures,
     )
 
 pub returns : goal.returns
@@ -30,5 +30,5 @@ returns c =
     let inv = c.loop-i.invariant in
     λ g.
     does_iter _ g c.args.members.now c.args.rounds.now inv.0.fits inv.1.fits
-    (c.after-x.ensures ∙ ap (at c.args.map.now.next_value) c.new.ensures)
+    c.first_round-x.ensures
     (all_copied inv.0 (omega (arith, c.loop-i-test.false))) (all_copied inv.1 (omega (arith, c.loop-i-test.false)))
