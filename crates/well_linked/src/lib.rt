@@ -16,6 +16,7 @@ ghost use Rattle.well_linked.specs.Marks.{Marks, place_at, list_of};
 use index::KeyPlace;
 use links::{Counts, Place};
 use multimap::{ListOrderedMultimap, MEMBERS, ROUNDS, ValuePlace};
+use std::array;
 
 // Says whether a map is well-linked.
 pub fn well_linked(map: &ListOrderedMultimap) -> bool
@@ -128,7 +129,7 @@ fn members_linked(map: &ListOrderedMultimap) -> bool
 {
     // The member places in use: as the list is linked, each is met once.
     let mut used = [false; 256];
-    let first = links::after(&map.next_key, KeyPlace::new(MEMBERS));
+    let first = map.first_member();
     mark(
         &map.next_key,
         first,
@@ -160,17 +161,10 @@ struct Chain {
 fn begin() -> [Chain; 256]
     ensures { Begun result }
 {
-    let mut chains = [Chain {
-        last: ValuePlace::new(0),
+    array::from_fn(|key| Chain {
+        last: multimap::base(KeyPlace::new(key as u16)),
         rounds: 0,
-    }; 256];
-    for key in 0..MEMBERS {
-        chains[key as usize] = Chain {
-            last: multimap::base(KeyPlace::new(key)),
-            rounds: 0,
-        };
-    }
-    chains
+    })
 }
 
 // Follows the rounds in order: each joins the chain of its member place. Nothing, where a round's member place is not in use or the links
