@@ -16,7 +16,8 @@ pub const KEYS: u16 = 256;
 
 pub const EMPTY: u16 = 65535;
 
-// A member's place in the map's arrays of keys. A contract sees its number.
+// A member's place in the map's arrays of keys. A contract sees its number. `multimap::ValuePlace` has the same impls: `rt verdict` refuses those
+// that a macro of the repository's own writes, and the C interface takes no struct with a type parameter.
 #[repr(C)]
 #[derive(Clone, Copy)]
 pub struct KeyPlace(u16);

@@ -45,6 +45,7 @@ pub fn replace(map: &mut ListOrderedMultimap, poster: u64, key: KeyPlace, v: u64
 }
 
 // Strikes the rounds of the member place `key`, as many as its length says, from its head on.
+// Strikes where `removing::remove_record` lets each round leave: the member stays with no round, for the one that `replace` adds.
 pub fn empty(map: &mut ListOrderedMultimap, key: KeyPlace)
     ensures { map.new ≡ without_record map.old key }
 {

@@ -20,7 +20,7 @@ pub const MEMBERS: u16 = 256;
 
 pub const ROUNDS: u16 = 1024;
 
-// A round's place in the map's arrays of rounds. A contract sees its number.
+// A round's place in the map's arrays of rounds. A contract sees its number. It has the impls of `KeyPlace`, for the reason given there.
 #[repr(C)]
 #[derive(Clone, Copy)]
 pub struct ValuePlace(u16);
@@ -49,6 +49,7 @@ impl Place for ValuePlace {
     }
 }
 
+// Holds arrays of fixed size, since there is no heap, and Rust and C lay such a record out alike.
 #[repr(C)]
 #[derive(Clone, Copy)]
 pub struct ListOrderedMultimap {

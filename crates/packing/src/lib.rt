@@ -142,6 +142,7 @@ fn copy_members(map: &ListOrderedMultimap, numbers: &mut [u64; 256], ranks: &mut
     ensures { let ks : List ℕ = listed map.now.next_key 256 map.now.members.len in MembersCopied map.now.keys ks (length ks) numbers.new ranks.new }
 {
     let mut x = map.first_member();
+    // Goes along the links, and i is the rank that is written.
     for i in 0..map.members.len {
         links::put(numbers, i as usize, map.member(x));
         links::put(ranks, x.index(), KeyPlace::new(i));
@@ -161,6 +162,7 @@ fn copy_rounds(
     ensures owners_long { length owners.new ≡ 1024 }
 {
     let mut x = map.first_round();
+    // Goes along the links, and i is where it writes in both arrays.
     for i in 0..map.rounds.len as usize {
         links::put(owners, i, links::after(ranks, map.owner(x)));
         links::put(scores, i, map.round(x));

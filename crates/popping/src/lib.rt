@@ -1,5 +1,6 @@
 // The call that takes the first round out, in place; and `pop`, by which either end's round is taken out. Each pop has a crate of its own: where
-// crates are compiled one by one, each has then one call of `changing::leave`, and the compiler puts it in.
+// crates are compiled one by one, each has then one call of `pop`, and the compiler puts it in, and `changing::leave` with it.
+// In the static library, which is compiled as a whole, `leave` stays a function that both call.
 
 #![tactic(auto)]
 

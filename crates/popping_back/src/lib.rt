@@ -1,4 +1,4 @@
-// The call that takes the last round out, in place.
+// The call that takes the last round out, in place. It has a crate of its own for the reason that `popping` gives.
 
 #![tactic(auto)]
 

@@ -39,6 +39,7 @@ pub fn remove_all(map: &mut ListOrderedMultimap, k: u64, out: &mut [u64]) -> Res
 }
 
 // Takes the rounds of the member in the place `key` out, one after the other; it leaves with the last.
+// Is not `inserting::empty` and then `changing::part`, since by these a member place of size 0 would leave too, which here changes nothing.
 #[tactic(auto, using(crate::proofs::Expels::goes_on))]
 pub fn remove_record(map: &mut ListOrderedMultimap, key: KeyPlace)
     ensures { RecordOut map.old key map.new }
