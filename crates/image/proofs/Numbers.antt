@@ -1,11 +1,12 @@
 -- Numbers read from bytes. Assumes nothing.
-use Prim.Native.Nat.{ℕ, zero, suc, ◌+◌, ◌*◌, ◌-◌, ◌<◌}
+use Prim.Native.Nat.{ℕ, zero, suc, ◌+◌, ◌*◌, ◌-◌, ◌/◌, ◌≤◌, ◌<◌}
 use mathlib.Core.Path.{◌≡◌, refl, sym, ap, ◌∙◌}
-use mathlib.Core.List.{List}
+use mathlib.Core.List.{List, []}
 use native.Mathlib.Omega.{arith}
 use lib.ListN.{length, get_or, take, drop, length-drop}
 use lib.Seq.{get_or-drop, drop-drop, take_all}
 use Rattle.std.specs.Int.{w32, w64, from_le_bytes}
+use Rattle.std.specs.Simd.{first_chunks}
 use Rattle.std.proofs.lemmas.List.{get_or-take}
 use Rattle.image.specs.Bytes.{number, numbers}
 
@@ -95,10 +96,20 @@ numbers_at (suc n) (suc i) s h =
     let e : 8 + 8 * i ≡ 8 * suc i = omega arith in
     numbers_at n i (drop 8 s) (omega arith) ∙ ap (number 8) (drop-drop (8 * i) 8 s ∙ ap (λ (q : ℕ). drop q s) e)
 
--- the i-th of the n numbers from p on, as it is read from the part of a slice that begins at p
-pub nth_read : (s : List ℕ) (p n i : ℕ) → i < n → {b : List ℕ} → b ≡ take 8 (drop (8 * i) (take (length s - p) (drop p s)))
-    → {x : ℕ} → x ≡ from_le_bytes w64 b → x ≡ get_or (numbers n (drop p s)) i 0
-nth_read s p n i h e f =
+-- the i-th piece of eight bytes
+chunk_at : (k i : ℕ) (s : List ℕ) → i < k → get_or (first_chunks 8 k s) i [] ≡ take 8 (drop (8 * i) s)
+chunk_at zero i s h = absurd (omega arith)
+chunk_at (suc k) zero s h = refl
+chunk_at (suc k) (suc i) s h =
+    let e : 8 + 8 * i ≡ 8 * suc i = omega arith in
+    chunk_at k i (drop 8 s) (omega arith) ∙ ap (take 8) (drop-drop (8 * i) 8 s ∙ ap (λ (q : ℕ). drop q s) e)
+
+-- the i-th of the n numbers from p on, as it is read from the part of a slice that begins at p, in pieces of eight bytes
+pub nth_read : (s : List ℕ) (p n i : ℕ) → i < n → p + 8 * n ≤ length s → {cs : List (List ℕ)}
+    → cs ≡ first_chunks 8 (length (take (length s - p) (drop p s)) / 8) (take (length s - p) (drop p s))
+    → {x : ℕ} → x ≡ from_le_bytes w64 (get_or cs i []) → x ≡ get_or (numbers n (drop p s)) i 0
+nth_read s p n i h long e f =
     let rest : take (length s - p) (drop p s) ≡ drop p s = take_all (length s - p) (drop p s) (omega (arith, length-drop p s)) in
-    f ∙ ap (from_le_bytes w64) (e ∙ ap (λ (l : List ℕ). take 8 (drop (8 * i) l)) rest)
+    let many : i < length (drop p s) / 8 = omega (arith, length-drop p s) in
+    f ∙ ap (λ (l : List (List ℕ)). from_le_bytes w64 (get_or l i [])) (rw rest at e) ∙ ap (from_le_bytes w64) (chunk_at (length (drop p s) / 8) i (drop p s) many)
     ∙ eight_read (drop (8 * i) (drop p s)) ∙ sym (numbers_at n i (drop p s) h)

@@ -59,7 +59,7 @@ fn put(out: &mut [u8], at: usize, bytes: &[u8])
 }
 
 // Stores the sizes at the front of `out`, then pair by pair, along the links, a member in the first array and a round in the second. Where they
-// go is carried along: before each pair `Running` holds.
+// go is carried along, and not worked out from the pair's number: that is a rule of the project. Before each pair `Running` holds.
 fn put_along(map: &ListOrderedMultimap, out: &mut [u8])
     requires { 8 + 16 * map.now.rounds.len ≤ length out.old }
     ensures { out.new ≡ over (image_in map.now) out.old }
@@ -102,11 +102,12 @@ fn restore(map: &mut ListOrderedMultimap, s: &[u8], n: usize, m: u64) -> bool
     requires { WellLinked map.old × (state_of map.old ≡ empty (limits_of map.old)) × RightSizes (limits_of map.old) s.now n m }
     ensures { Restored (limits_of map.old) s.now result map.new }
 {
-    let ks = &s[8..];
-    let vs = &s[8 + 8 * n..];
+    let (ks, _) = s[8..].as_chunks::<8>();
+    let (vs, _) = s[8 + 8 * n..].as_chunks::<8>();
+    // Goes by an index, since a `zip` doesn't count the pairs, as the proof does.
     for i in 0..n {
-        let k = u64::from_le_bytes(bytes_at(ks, 8 * i));
-        let v = u64::from_le_bytes(bytes_at(vs, 8 * i));
+        let k = u64::from_le_bytes(ks[i]);
+        let v = u64::from_le_bytes(vs[i]);
         let Ok(_) = adding::append(map, 0, k, v) else {
             return false;
         };

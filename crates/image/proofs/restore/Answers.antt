@@ -1,5 +1,6 @@
 -- `image::restore` meets its contract, by the laws of proofs/Appends.antt and Restores.antt. Assumes nothing.
 use Prim.Native.Nat.{◌+◌, ◌*◌}
+use native.Mathlib.Omega.{arith}
 use Rattle.image.proofs.Numbers.{nth_read}
 use Rattle.image.proofs.Appends.{building_one, building_stuck, building_all}
 use Rattle.image.proofs.Restores.{restored_many, restored_by}
@@ -13,8 +14,8 @@ returns-in_default c =
     let allowed = c.requires.0.limited.allowed in
     restored_many _ s allowed c.requires.2
     (building_stuck _ s n c.loop-i.invariant allowed.rounds c.requires.2.few c.loop-i-test.true
-    (nth_read s 8 n i c.loop-i-test.true c.bytes_at.ensures c.from_le_bytes-k.ensures)
-    (nth_read s (8 + 8 * n) n i c.loop-i-test.true c.bytes_at-in-loop-i.ensures c.from_le_bytes-v.ensures) (c.in_default.ensures c.loop-i.invariant.linked))
+    (nth_read s 8 n i c.loop-i-test.true (omega (arith, c.requires.2.long)) c.as_chunks.ensures.front c.from_le_bytes-k.ensures)
+    (nth_read s (8 + 8 * n) n i c.loop-i-test.true (omega (arith, c.requires.2.long)) c.as_chunks-2.ensures.front c.from_le_bytes-v.ensures) (c.in_default.ensures c.loop-i.invariant.linked))
 
 pub loop-i-preserved : goal.loop-i-preserved
 loop-i-preserved c =
@@ -22,8 +23,8 @@ loop-i-preserved c =
     let n = c.args.n in
     let i = c.loop-i.i in
     building_one _ s n c.loop-i.invariant c.requires.0.limited.allowed.rounds c.requires.2.few c.loop-i-test.true
-    (nth_read s 8 n i c.loop-i-test.true c.bytes_at.ensures c.from_le_bytes-k.ensures)
-    (nth_read s (8 + 8 * n) n i c.loop-i-test.true c.bytes_at-in-loop-i.ensures c.from_le_bytes-v.ensures) (c.in-Ok.ensures c.loop-i.invariant.linked)
+    (nth_read s 8 n i c.loop-i-test.true (omega (arith, c.requires.2.long)) c.as_chunks.ensures.front c.from_le_bytes-k.ensures)
+    (nth_read s (8 + 8 * n) n i c.loop-i-test.true (omega (arith, c.requires.2.long)) c.as_chunks-2.ensures.front c.from_le_bytes-v.ensures) (c.in-Ok.ensures c.loop-i.invariant.linked)
 
 pub returns : goal.returns
 returns c =
