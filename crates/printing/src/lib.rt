@@ -4,13 +4,14 @@
 
 mod putting;
 
-ghost use Rattle.std.specs.Prelude.{◌+◌, ◌≤◌, ◌≡◌, [], ◌++◌, length, take};
+ghost use Rattle.std.specs.Prelude.{◌+◌, ◌<◌, ◌≤◌, ◌≡◌, [], ◌++◌, length, take};
 ghost use Rattle.steps.specs.Call.{lend};
 ghost use Rattle.steps.specs.Call as C;
 ghost use Rattle.answers.specs.Answers.{answer_of, answered};
 ghost use Rattle.printing.specs.Text as Text;
 ghost use Rattle.printing.specs.Reply as Reply;
-ghost use Rattle.printing.specs.Said.{Prints};
+ghost use Rattle.printing.specs.Counts.{text_with};
+ghost use Rattle.printing.specs.Said.{max_printed, Prints};
 ghost use Rattle.printing.specs.Put.{Wrote};
 
 use crate::putting::Writer;
@@ -20,18 +21,21 @@ use answers::{Answer, IntoAnswer, Popped, Refusal};
 // The longest printed line, with its line end: `list` and 1,024 pairs of two numbers of 20 digits.
 pub const MAX_PRINTED: usize = 43013;
 
+// What a count counts, by what the call wrote to its slices.
+#[derive(Clone, Copy)]
+enum Counted<'a> {
+    Kept,
+    Old(&'a [u64; 1024]),
+    Members(&'a [u64; 1024]),
+    Pairs(&'a [u64; 1024], &'a [u64; 1024]),
+}
+
 // Prints an answer to the front of `out`, and answers how many bytes it has; without room for the longest line nothing is printed. A count is
 // of the rounds kept.
-#[tactic(auto, using(crate::proofs::Sayings::answer_long, crate::proofs::Sayings::said, crate::proofs::Sayings::prints))]
 pub fn print_answer<A: IntoAnswer + Drop>(out: &mut [u8], outcome: Result<A, Refusal>) -> usize
     ensures { Prints out.old (Reply.text_of (Reply.kept (lend [] [])) (answered A.answer outcome)) out.new result }
 {
-    if out.len() < MAX_PRINTED {
-        return 0;
-    }
-    let mut line = Writer { out, at: 0 };
-    line.put_outcome(outcome);
-    line.at
+    print(out, outcome, Counted::Kept)
 }
 
 // Prints an answer that counts the rounds written out, with these.
@@ -42,15 +46,7 @@ pub fn print_old<A: IntoAnswer + Drop>(
 ) -> usize
     ensures { Prints out.old (Reply.text_of (Reply.old (lend rounds.now [])) (answered A.answer outcome)) out.new result }
 {
-    match into_answered(outcome) {
-        Ok(Answer::Count(n)) if MAX_PRINTED <= out.len() => {
-            let mut line = Writer { out, at: 0 };
-            line.put_count(b"old", n);
-            line.put_values(first(n, rounds));
-            line.at
-        }
-        outcome => print_answer(out, outcome),
-    }
+    print(out, outcome, Counted::Old(rounds))
 }
 
 // Prints an answer that counts the members written out, with these.
@@ -61,15 +57,7 @@ pub fn print_members<A: IntoAnswer + Drop>(
 ) -> usize
     ensures { Prints out.old (Reply.text_of (Reply.keyed (lend members.now [])) (answered A.answer outcome)) out.new result }
 {
-    match into_answered(outcome) {
-        Ok(Answer::Count(n)) if MAX_PRINTED <= out.len() => {
-            let mut line = Writer { out, at: 0 };
-            line.put(b"keys");
-            line.put_values(first(n, members));
-            line.at
-        }
-        outcome => print_answer(out, outcome),
-    }
+    print(out, outcome, Counted::Members(members))
 }
 
 // Prints an answer that counts the pairs written out, with these.
@@ -81,15 +69,7 @@ pub fn print_pairs<A: IntoAnswer + Drop>(
 ) -> usize
     ensures { Prints out.old (Reply.text_of (Reply.listed (lend members.now rounds.now)) (answered A.answer outcome)) out.new result }
 {
-    match into_answered(outcome) {
-        Ok(Answer::Count(n)) if MAX_PRINTED <= out.len() => {
-            let mut line = Writer { out, at: 0 };
-            line.put(b"list");
-            line.put_pairs(first(n, members), first(n, rounds));
-            line.at
-        }
-        outcome => print_answer(out, outcome),
-    }
+    print(out, outcome, Counted::Pairs(members, rounds))
 }
 
 // Prints what a line gets that asks nothing.
@@ -111,14 +91,21 @@ fn first(n: u64, numbers: &[u64]) -> &[u64]
     numbers.get(..n as usize).unwrap_or(numbers)
 }
 
-// Gives what a call answers as the answer of any call.
-fn into_answered<A: IntoAnswer>(outcome: Result<A, Refusal>) -> Result<Answer, Refusal>
-    ensures { answered answer_of result ≡ answered A.answer outcome }
+// Prints an answer, a count with what it counts.
+#[tactic(auto, using(crate::proofs::Sayings::said, crate::proofs::Sayings::prints))]
+fn print<A: IntoAnswer + Drop>(
+    out: &mut [u8],
+    outcome: Result<A, Refusal>,
+    counted: Counted,
+) -> usize
+    ensures { Prints out.old (Reply.text_of (text_with counted.entry) (answered A.answer outcome)) out.new result }
 {
-    match outcome {
-        Ok(a) => Ok(a.into_answer()),
-        Err(refusal) => Err(refusal),
+    if out.len() < MAX_PRINTED {
+        return 0;
     }
+    let mut line = Writer { out, at: 0 };
+    line.put_outcome(outcome, counted);
+    line.at
 }
 
 impl Writer<'_> {
@@ -142,27 +129,52 @@ impl Writer<'_> {
     }
 
     // Writes an answer, or the number of a refusal.
-    fn put_outcome<A: IntoAnswer>(&mut self, outcome: Result<A, Refusal>)
-        requires { self.old.at + 51 ≤ length self.old.out.now }
-        ensures { Wrote self.old (Reply.text_of (Reply.kept (lend [] [])) (answered A.answer outcome)) self.new }
+    fn put_outcome<A: IntoAnswer>(&mut self, outcome: Result<A, Refusal>, counted: Counted)
+        requires { self.old.at + max_printed ≤ length self.old.out.now }
+        ensures wrote { Wrote self.old (Reply.text_of (text_with counted.entry) (answered A.answer outcome)) self.new }
+        ensures short { self.new.at < self.old.at + max_printed }
     {
         match outcome {
-            Ok(a) => self.put_answer(a.into_answer()),
+            Ok(a) => self.put_answer(a.into_answer(), counted),
             Err(refusal) => self.put_count(b"refused", refusal.number()),
         }
     }
 
     // Writes an answer. Those of the last arm are no line's.
-    fn put_answer(&mut self, answer: Answer)
-        requires { self.old.at + 51 ≤ length self.old.out.now }
-        ensures { Wrote self.old (Reply.text_of (Reply.kept (lend [] [])) (answer_of answer)) self.new }
+    fn put_answer(&mut self, answer: Answer, counted: Counted)
+        requires { self.old.at + max_printed ≤ length self.old.out.now }
+        ensures wrote { Wrote self.old (Reply.text_of (text_with counted.entry) (answer_of answer)) self.new }
+        ensures short { self.new.at < self.old.at + max_printed }
     {
         match answer {
             Answer::Nothing => self.put(b"none"),
-            Answer::Count(n) => self.put_count(b"kept", n),
+            Answer::Count(n) => self.put_counted(n, counted),
             Answer::Present(was) => self.put(if was { b"present" } else { b"new" }),
             Answer::Popped(p) => self.put_popped(p),
             Answer::Done | Answer::Round(_) | Answer::Occupied(_) | Answer::Vacant(_) => {}
+        }
+    }
+
+    // Writes a count with what it counts.
+    fn put_counted(&mut self, n: u64, counted: Counted)
+        requires { self.old.at + max_printed ≤ length self.old.out.now }
+        ensures wrote { Wrote self.old (text_with counted.entry n) self.new }
+        ensures short { self.new.at < self.old.at + max_printed }
+    {
+        match counted {
+            Counted::Kept => self.put_count(b"kept", n),
+            Counted::Old(rounds) => {
+                self.put_count(b"old", n);
+                self.put_values(first(n, rounds));
+            }
+            Counted::Members(members) => {
+                self.put(b"keys");
+                self.put_values(first(n, members));
+            }
+            Counted::Pairs(members, rounds) => {
+                self.put(b"list");
+                self.put_pairs(first(n, members), first(n, rounds));
+            }
         }
     }
 }

@@ -11,12 +11,9 @@ use Rattle.std.specs.Iterator.Adapters.{zip_first, zip_second}
 use Rattle.std.specs.List.{flat_map, zip}
 use Rattle.std.proofs.lemmas.Slice.Zip.{zip_turn, zip_end, length-zip}
 use Rattle.printing.specs.Text.{paired, pairs}
-use Rattle.printing.proofs.Puts.{wrote_none, wrote_join, wrote_as, wrote_long}
+use Rattle.printing.proofs.Puts.{wrote_join, wrote_as, wrote_long}
 use Rattle.printing.proofs.Runs.{pair_more, few_pairs}
 use Rattle.printing.proofs.putting.Writer.put_pairs.Goals as goal
-
-pub loop-member-init : goal.loop-member-init
-loop-member-init c = ((tt, tt), tt, wrote_none _)
 
 pub put_pair-requires : goal.put_pair-requires
 put_pair-requires c =
