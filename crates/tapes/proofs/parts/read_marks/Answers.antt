@@ -1,7 +1,6 @@
 -- `tapes::parts::read_marks` meets its contract. The loop's invariant: the marks so far are held. Assumes nothing.
 use mathlib.Core.Path.{sym, ◌∙◌}
 use native.Mathlib.Omega.{arith}
-use lib.Seq.{take_all}
 use Rattle.tapes.specs.Parts.{marks_of}
 use Rattle.tapes.proofs.Holds.{held_none, held_join, held_as}
 use Rattle.tapes.proofs.Numbers.{mark_more, no_mark}
@@ -23,6 +22,3 @@ loop-b-preserved c =
       | then-is_ascii_digit w ↦ rw (w.marks-is, w.count-is) (held_as (held_join inv w.hold-count.ensures) (mark_more s i t (is ∙ w.if-is_ascii_digit.true)))
       | else-is_ascii_digit w ↦ rw (w.marks-is, w.count-is) (held_as inv (no_mark s i t (is ∙ w.if-is_ascii_digit.false)))
     ]
-
-pub returns : goal.returns
-returns c = rw (take_all c.loop-b.b-index c.args.s.now c.loop-b-test.false) at c.loop-b.invariant

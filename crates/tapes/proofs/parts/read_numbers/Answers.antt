@@ -1,15 +1,10 @@
 -- `tapes::parts::read_numbers` meets its contract. The loop's invariant: which numbers are still to come. Assumes nothing.
 use mathlib.Core.Path.{sym, ap, ◌∙◌}
-use native.Mathlib.Omega.{arith}
 use Rattle.tapes.specs.Parts.{grown}
 use lib.ListN.{get_or}
-use Rattle.tapes.proofs.Holds.{come_all}
 use Rattle.tapes.proofs.Numbers.{as_list, on_digit, on_other, on_end}
 use Rattle.tapes.proofs.parts.read_numbers.Goals as goal
 use Rattle.tapes.proofs.parts.read_numbers.Goals.{then-is_ascii_digit, else-is_ascii_digit}
-
-pub loop-b-init : goal.loop-b-init
-loop-b-init c = come_all _ _ _ (omega arith)
 
 pub loop-b-preserved : goal.loop-b-preserved
 loop-b-preserved c =
