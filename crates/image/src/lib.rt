@@ -17,8 +17,7 @@ ghost use Rattle.image.specs.Answers.{Reads};
 ghost use Rattle.image.specs.Parts.{RightSizes, Said, Restored};
 
 use answers::Refusal;
-use links::Place;
-use multimap::{ListOrderedMultimap, ROUNDS, ValuePlace};
+use multimap::ListOrderedMultimap;
 
 // Writes the image of a well-linked map to the front of `out`, and says how long it is.
 pub fn write_image(map: &ListOrderedMultimap, out: &mut [u8]) -> Result<usize, Refusal>
@@ -66,7 +65,7 @@ fn put_along(map: &ListOrderedMultimap, out: &mut [u8])
 {
     put(out, 0, &u32::from(map.rounds.len).to_le_bytes());
     put(out, 4, &u32::from(map.members.len).to_le_bytes());
-    let mut x = links::after(&map.next_value, ValuePlace::new(ROUNDS));
+    let mut x = map.first_round();
     let mut first = 8;
     let mut second = 8 + 8 * map.rounds.len as usize;
     for _ in 0..map.rounds.len {

@@ -9,7 +9,7 @@ use Rattle.image.proofs.put_along.Goals as goal
 pub loop-init : goal.loop-init
 loop-init c =
     let m = c.args.map.now in
-    running_start m.keys m.values m.key_index m.next_value m.rounds.len m.members.len _ (c.after-x.ensures ∙ ap (at m.next_value) c.new.ensures) _
+    running_start m.keys m.values m.key_index m.next_value m.rounds.len m.members.len _ c.first_round-x.ensures _
     (sizes_stored m.keys m.values m.key_index m.next_value m.rounds.len m.members.len c.args.out.now _ _
     (stores c.args.out.now 0 4 c.put.ensures c.to_le_bytes.ensures c.from.ensures)
     (stores c.put.new.out 4 4 c.put-2.ensures c.to_le_bytes-2.ensures c.from-2.ensures) c.requires)
@@ -19,7 +19,7 @@ loop-preserved c =
     let m = c.args.map.now in
     running_one m.keys m.values m.key_index m.next_value m.rounds.len m.members.len c.loop.invariant
     (omega (arith, c.put.auto.out, c.put-2.auto.out, c.requires)) c.loop-test.true
-    _ _ _ (c.member.ensures ∙ ap (at m.keys) c.owner.ensures) c.round.ensures c.after-x-in-loop.ensures _ _
+    _ _ _ (c.member.ensures ∙ ap (at m.keys) c.owner.ensures) c.round.ensures c.after-x.ensures _ _
     (stores c.loop.out c.loop.first 8 c.put-in-loop.ensures c.to_le_bytes-in-loop.ensures refl)
     (stores c.put-in-loop.new.out c.loop.second 8 c.put-in-loop-2.ensures c.to_le_bytes-in-loop-2.ensures refl)
 
