@@ -14,7 +14,7 @@ use printing::MAX_PRINTED;
 // As many bytes of a line are held as are needed to see that it is too long.
 pub const MAX_HELD: usize = parsing::MAX_LINE + 1;
 
-// The front of a line that has not ended: the first `held` of the bytes, or all where there are fewer.
+// The front of a line that has not ended: the first `held` of the bytes, or all where there are fewer. Is no `Vec`, since there is no heap.
 #[derive(Clone, Copy)]
 pub struct Unfinished {
     pub bytes: [u8; MAX_HELD],

@@ -3,7 +3,7 @@ ghost use Rattle.std.specs.Prelude.{◌∷◌, [], ◌+◌, ◌*◌, ◌≤◌, 
 ghost use Rattle.printing.specs.Text as Text;
 ghost use Rattle.printing.specs.Put.{Wrote};
 
-// A slice, and how many of its first bytes are written.
+// A slice, and how many of its first bytes are written. Is no `Vec`, since there is no heap.
 #[derive(Drop)]
 pub(crate) struct Writer<'a> {
     pub(crate) out: &'a mut [u8],

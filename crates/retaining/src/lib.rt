@@ -15,7 +15,8 @@ use answers::Refusal;
 use links::Place;
 use multimap::{ListOrderedMultimap, ROUNDS, ValuePlace};
 
-// Takes the rounds out whose mark is 0, and the members with no other round; answers how many rounds are kept.
+// Takes the rounds out whose mark is 0, and the members with no other round; answers how many rounds are kept. Takes bytes as marks, which C and
+// lists of calls lend, and refuses one that is neither 0 nor 1.
 #[tactic(auto, using(crate::proofs::Thins::does_count, crate::proofs::Thins::does_value, crate::proofs::Thins::does_retain))]
 pub fn retain(map: &mut ListOrderedMultimap, marks: &[u8]) -> Result<usize, Refusal>
     ensures { Calls (C.retain marks.now) map.old (say (answered C.count result)) map.new }

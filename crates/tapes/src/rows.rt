@@ -4,8 +4,8 @@ ghost use Rattle.printing.specs.Text.{decimal};
 ghost use Rattle.tapes.specs.Kept.{Kept};
 ghost use Rattle.tapes.specs.Printed.{rows};
 
-// A slice, and how many of its first bytes are written. Is no `Writer` of `printing`: a Writer's caller has seen that there is room, and a Page
-// leaves out what has none.
+// A slice, and how many of its first bytes are written. Is no `Vec`, since there is no heap, and no `Writer` of `printing`: a Writer's caller has
+// seen that there is room, and a Page leaves out what has none.
 #[derive(Drop)]
 pub(crate) struct Page<'a> {
     pub(crate) out: &'a mut [u8],
