@@ -228,7 +228,7 @@ pub fn call(
 }
 
 // Makes one call on the map that came, and hands it back beside the answer. A call that is lent a slice to write to goes without it, since nothing is
-// known of what a closure has written to such a slice.
+// known of what a closure has written to such a slice; and so does a read, which hands on the record that came.
 fn by_value<A, F: FnOnce(&mut ListOrderedMultimap) -> A>(
     m: ListOrderedMultimap,
     call: F,

@@ -1,5 +1,5 @@
 // `new` and `clear`, after which no place is in use, and `pack_to`, after which the places from 0 on are, in order. The map is changed where it
-// stands. No public function has a premise but that the map is well-linked, and `new` has none.
+// stands. `pack_to` alone has a premise, that the map is well-linked.
 
 #![tactic(auto)]
 
@@ -116,7 +116,8 @@ fn vacate(map: &mut ListOrderedMultimap)
 }
 
 // Copies the map out, and takes it in again from the empty map on: places are taken from 0 on then. T is set apart.
-// Copies no more than it needs: a copy of the whole map was tried, and takes 28 KB of stack where these four arrays take 13.
+// Copies no more than it needs: a copy of the whole map was tried, and takes 28 KB of stack where these four arrays take 13; an array
+// of pairs would take 16 KB where `owners` and `scores` take 10.
 fn pack(map: &mut ListOrderedMultimap)
     requires { WellLinked map.old }
     ensures { Repacked map.old map.new }

@@ -15,6 +15,7 @@ use multimap::ListOrderedMultimap;
 
 // Runs the calls that the slices hold, on the new map with these limits. The out slices, and after each call its answer, are written to `outs`,
 // `outs2` and `answers`. A list that is cut off or holds what is no call is run up to there. The answer is how many calls were run.
+// C lends the slices one by one.
 pub fn replay(
     members_limit: u64,
     rounds_limit: u64,

@@ -114,7 +114,7 @@ fn both_ways<P: Place>(next: &[P], previous: &[P], root: P, many: u16) -> bool
     neighbours(next, previous, here, root)
 }
 
-// Says whether `next` leads from the cell a to the cell b, and `previous` back.
+// Says whether `next` leads from the cell a to the cell b, and `previous` back. Compares numbers, since a kind of place promises no equality.
 fn neighbours<P: Place>(next: &[P], previous: &[P], a: P, b: P) -> bool
     ensures { Decides result (Route (place_at P.number P.of next.now) (place_at P.number P.of previous.now) (P.number a) [] (P.number b)) }
 {
