@@ -1,4 +1,3 @@
 -- Laws that belong to no one function.
 pub mod Emptying
 pub mod Inserting
-pub mod Strange

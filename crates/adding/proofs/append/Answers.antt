@@ -2,18 +2,15 @@
 use mathlib.Core.Path.{refl, sym, ◌∙◌}
 use Rattle.std.proofs.lemmas.Bool.{leb-true, leb-false}
 use Rattle.std.proofs.lemmas.Result.{err_from_is_err_and}
-use Rattle.steps.specs.Call.{append}
-use Rattle.steps.proofs.Doing.{does_strange}
-use Rattle.multimap.specs.WellLinked.{linked}
+use Rattle.steps.specs.Call.{append, present}
 use Rattle.multimap.proofs.Posts.{append_full}
 use Rattle.adding.proofs.Appends.{does_known, does_new}
+use Rattle.adding.proofs.Strange.{strange}
 use Rattle.adding.proofs.append.Goals as goal
 
 pub returns-in_err-check_poster : goal.returns-in_err-check_poster
 returns-in_err-check_poster c =
-    λ wl. let p = err_from_is_err_and c.from_residual.result c.from_residual.ensures.1 in
-    let h = c.in_err-check_poster.ensures in
-    rw (p.1, p.2, h.1) (does_strange linked (append c.args.poster c.args.k c.args.v) c.args.map.now refl wl refl h.0)
+    λ wl. strange (append c.args.poster c.args.k c.args.v) c.args.map.now present _ _ refl wl c.in_err-check_poster.ensures c.from_residual.ensures.1
 
 pub returns-then-is_full : goal.returns-then-is_full
 returns-then-is_full c =

@@ -2,7 +2,7 @@
 use mathlib.Core.Path.{refl}
 use Rattle.answers.specs.Answers.{round_of}
 use Rattle.steps.specs.Call.{occupied_insert}
-use Rattle.inserting.proofs.Strange.{strange}
+use Rattle.adding.proofs.Strange.{strange}
 use Rattle.entries.proofs.Calls.{no_insert, inserted}
 use Rattle.entries.proofs.occupied_insert.Goals as goal
 

@@ -3,7 +3,7 @@ use mathlib.Core.Path.{refl}
 use Rattle.std.proofs.lemmas.Result.{err_from_is_err_and}
 use Rattle.answers.specs.Answers.{done_of}
 use Rattle.steps.specs.Call.{vacant_insert}
-use Rattle.inserting.proofs.Strange.{strange}
+use Rattle.adding.proofs.Strange.{strange}
 use Rattle.entries.proofs.Calls.{not_new, let_in}
 use Rattle.entries.proofs.vacant_insert.Goals as goal
 

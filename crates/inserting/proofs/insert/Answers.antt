@@ -3,7 +3,7 @@ use mathlib.Core.Path.{refl, sym, ◌∙◌}
 use Rattle.std.proofs.lemmas.Result.{err_from_is_err_and}
 use Rattle.answers.specs.Answers.{round_of}
 use Rattle.steps.specs.Call.{insert}
-use Rattle.inserting.proofs.Strange.{strange}
+use Rattle.adding.proofs.Strange.{strange}
 use Rattle.inserting.proofs.Inserting.{does_known, does_new}
 use Rattle.inserting.proofs.insert.Goals as goal
 

@@ -2,7 +2,7 @@
 use mathlib.Core.Path.{refl, sym, ◌∙◌}
 use Rattle.std.proofs.lemmas.Result.{err_from_is_err_and}
 use Rattle.steps.specs.Call.{insert_all, count}
-use Rattle.inserting.proofs.Strange.{strange}
+use Rattle.adding.proofs.Strange.{strange}
 use Rattle.inserting_all.proofs.InsertingAll.{does_short, does_known, does_new}
 use Rattle.inserting_all.proofs.insert_all.Goals as goal
 
