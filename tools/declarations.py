@@ -2,8 +2,8 @@
 # What Rust and C are told of libprelgammo.a, from the crates' sources: the `#[repr(C)]` record, and every function that is
 # marked `#[unsafe(no_mangle)] pub extern "C"`.
 #   tools/declarations.py             writes the files
-#   tools/declarations.py --check     fails, and says why, if one of them is not as it would write it, or if prelgammo.h does not
-#                                     describe a function
+#   tools/declarations.py --check     fails, and says why, if one of them is not as it would write it, if prelgammo.h does not
+#                                     describe a function, or if a function does not promise the call of its name
 #   tools/declarations.py --symbol    prints the name that the layout and the signatures give the archive
 # That name has a hash of them. The archive defines it (bindings/library.sh) and the files refer to it, so an archive of another
 # layout does not link.
@@ -60,6 +60,9 @@ def check(library):
     for function in library.functions:
         if function.map and f' {of_map(function)}(' not in described:
             print(f'{DESCRIBED.relative_to(ROOT)} does not describe {of_map(function)}', file=sys.stderr)
+            status = 1
+        if function.name not in OF_NO_CALL and function.promised != short(function):
+            print(f'{function.name} does not promise the call {short(function)}', file=sys.stderr)
             status = 1
     return status
 
@@ -122,11 +125,13 @@ class Parameter:
         return f'{self.name}: {access}{passed}'
 
 
+# `promised` is the call of the steps that its promise names, if it names one.
 @dataclass
 class Function:
     name: str
     parameters: list
     gives: str
+    promised: str
 
     def __str__(self):
         return f'fn {self.name}({", ".join(map(str, self.parameters))})' + (f' -> {self.gives}' if self.gives else '')
@@ -148,6 +153,8 @@ class Function:
 
 # The functions that take whatever a record holds.
 ANY_RECORD = ('om_new', 'om_read_image', 'om_well_linked')
+# The functions that promise no one call: of the limits, of a call's number, of a list of calls, of bytes, of any record.
+OF_NO_CALL = ('om_new', 'om_call', 'om_turn', 'replay', 'om_write_image', 'om_read_image', 'om_well_linked')
 
 
 @dataclass
@@ -224,11 +231,17 @@ class Sources:
         return Field(name, Type(numbers.pop().number, len(parts)), comments, [part for part, _ in parts])
 
     def functions(self):
-        form = r'pub extern "C" fn (\w+)\((.*?)\)(?: -> (\w+))?\s*\n.*?\n?\{\n'
+        form = r'pub extern "C" fn (\w+)\((.*?)\)(?: -> (\w+))?\s*\n(.*?)\n?\{\n'
         found = re.findall(re.escape(EXPORTED) + OTHERS + form, self.code, re.S)
         if len(found) != self.code.count(EXPORTED):
             sys.exit(f'a function marked {EXPORTED} has another form than those that are known')
-        return [Function(name, self.parameters(words), self.given(gives)) for name, words, gives in found]
+        return [Function(name, self.parameters(words), self.given(gives), self.promised(clauses))
+                for name, words, gives, clauses in found]
+
+    # The call that a promise names, which is one of the map before and after, with the answer's four numbers.
+    def promised(self, clauses):
+        calls = re.findall(r'ensures \{ (?:CallsTold|Told linked) (?:\(C\.(\w+)[^)]*\)|C\.(\w+)) ', clauses)
+        return ''.join(calls[0]) if len(calls) == 1 else ''
 
     def given(self, words):
         return words if words in ('', RECORD) else str(self.type(words))
