@@ -1,12 +1,15 @@
-// The calls of the Rust crate's `OccupiedEntry` and `VacantEntry`, in place. Each takes the answer of `entry` apart first, and goes on only when it is
-// Occupied, or Vacant.
+// The calls of the Rust crate's `OccupiedEntry` and `VacantEntry`, in place. Each asks for the entry first, and goes on only when it is Occupied, or
+// Vacant.
 
 #![tactic(auto)]
 
 ghost use Rattle.answers.specs.Answers.{answered, done_of, round_of};
 ghost use Rattle.steps.specs.Call as C;
+ghost use Rattle.steps.specs.State.{present};
 ghost use Rattle.steps.specs.Step.{say};
-ghost use Rattle.multimap.specs.WellLinked.{Calls};
+ghost use Rattle.multimap.specs.Map.{state_of};
+ghost use Rattle.multimap.specs.WellLinked.{Calls, WellLinked};
+ghost use Rattle.entries.specs.Occupying.{Occupying};
 
 use answers::{Entry, Refusal};
 use multimap::ListOrderedMultimap;
@@ -21,9 +24,7 @@ pub fn occupied_append(
     ensures { Calls (C.occupied_append poster k v) map.old (say (answered done_of result)) map.new }
 {
     adding::check_poster(poster)?;
-    let Entry::Occupied(_) = reading::entry(map, k) else {
-        return Err(Refusal::Absent);
-    };
+    check_occupied(map, k)?;
     adding::append(map, poster, k, v)?;
     Ok(())
 }
@@ -38,9 +39,7 @@ pub fn occupied_insert(
     ensures { Calls (C.occupied_insert poster k v) map.old (say (answered round_of result)) map.new }
 {
     adding::check_poster(poster)?;
-    let Entry::Occupied(_) = reading::entry(map, k) else {
-        return Err(Refusal::Absent);
-    };
+    check_occupied(map, k)?;
     inserting::insert(map, poster, k, v)
 }
 
@@ -48,9 +47,7 @@ pub fn occupied_insert(
 pub fn occupied_remove_entry(map: &mut ListOrderedMultimap, k: u64) -> Result<Option<u64>, Refusal>
     ensures { Calls (C.occupied_remove_entry k) map.old (say (answered round_of result)) map.new }
 {
-    let Entry::Occupied(_) = reading::entry(map, k) else {
-        return Err(Refusal::Absent);
-    };
+    check_occupied(map, k)?;
     Ok(removing::remove(map, k))
 }
 
@@ -69,4 +66,14 @@ pub fn vacant_insert(
     };
     adding::append(map, poster, k, v)?;
     Ok(())
+}
+
+// Refuses a call on the entry of a number that is no member.
+fn check_occupied(map: &ListOrderedMultimap, k: u64) -> Result<(), Refusal>
+    ensures { WellLinked map.now → Occupying (present k (state_of map.now)) result }
+{
+    match reading::entry(map, k) {
+        Entry::Occupied(_) => Ok(()),
+        Entry::Vacant(_) => Err(Refusal::Absent),
+    }
 }
