@@ -9,6 +9,8 @@ use borrow.Author.Tests.{eq-eqb, ne_eqb}
 use lib.Dec.{eqb}
 use lib.ListN.{length, get_or, drop, length-drop}
 use Rattle.std.proofs.lemmas.List.{get_or-drop}
+use Rattle.std.proofs.Math.Bool.{and_assoc, and-true}
+use Rattle.std.specs.List.{fold}
 use Rattle.steps.specs.Lists.{all}
 use Rattle.steps.specs.State.{State, Pair, has, of, kept, keep}
 use Rattle.steps.specs.Call.{refused}
@@ -32,6 +34,11 @@ use Rattle.multimap.proofs.Leaves.{pair_gone}
 use Rattle.multimap.proofs.Leaving.{all_have}
 use Rattle.multimap.proofs.Stores.{map-append, length_pairs}
 use Rattle.retaining.specs.Thin.{Thinned}
+
+-- a test of all that goes on past the first that fails
+pub all_by_fold : {A : Type 0} (f : A → Bool) (b : Bool) (xs : List A) → fold (λ c x. c && f x) b xs ≡ b && all f xs
+all_by_fold f b [] = sym (and-true b)
+all_by_fold f b (x ∷ xs) = all_by_fold f (b && f x) xs ∙ and_assoc b (f x) (all f xs)
 
 -- each mark is 0 or 1
 abbrev pub proper : List ℕ → Bool

@@ -1,12 +1,15 @@
 -- `retaining::are_marks` meets its contract. Assumes nothing.
 use Rattle.std.proofs.Common.{rules, eqb}
 use borrow.Author.Tests.{tests}
-use mathlib.Core.Bool.{◌||◌}
+use mathlib.Core.Path.{◌∙◌}
+use mathlib.Core.Bool.{true, ◌&&◌, ◌||◌}
 use Rattle.std.proofs.lemmas.Iterator.{YieldsList-from_slice}
-use Rattle.std.proofs.lemmas.Iterator.Search.{all_from_yields_List}
+use Rattle.std.proofs.lemmas.Iterator.Consumers.{fold_from_yields_List}
+use Rattle.retaining.proofs.Thins.{all_by_fold}
 use Rattle.retaining.proofs.are_marks.Goals as goal
 
 pub returns : goal.returns
 returns c =
-    all_from_yields_List (λ m. eqb 0 m || eqb 1 m) _ _ _ c.all.ensures.ran (YieldsList-from_slice c.args.marks.now cc)
-    (λ x b q k. search (rules, tests))
+    fold_from_yields_List _ (λ b m. b && (eqb 0 m || eqb 1 m)) true _ c.fold.ensures.ran (YieldsList-from_slice c.args.marks.now cc)
+    (λ a x b q k. search (rules, tests))
+    ∙ all_by_fold (λ m. eqb 0 m || eqb 1 m) true c.args.marks.now
