@@ -4,7 +4,6 @@ use mathlib.Core.Path.{◌≡◌, refl}
 use mathlib.Core.Bool.{true, false}
 use lib.Dec.{ltb}
 use Rattle.std.specs.Prelude.{Result, Err, IsErrAnd}
-use Rattle.std.proofs.lemmas.Result.{err_from_is_err_and}
 use Rattle.steps.specs.State.{present}
 use Rattle.steps.specs.Call as C
 use Rattle.steps.specs.Call.{Call, Answer, lent, occupied, vacant}
@@ -15,6 +14,7 @@ use Rattle.steps.proofs.Checks.{vacant_present}
 use Rattle.steps.proofs.Doing.{does_refuse, does_as}
 use Rattle.answers.specs.Answers.{answered}
 use Rattle.answers.specs.declared.Refusal.{Refusal}
+use Rattle.answers.proofs.Handed.{handed_on}
 use Rattle.multimap.specs.declared.ListOrderedMultimap.{ListOrderedMultimap}
 use Rattle.multimap.specs.Map.{state_of}
 use Rattle.multimap.specs.WellLinked.{WellLinked, linked}
@@ -59,6 +59,4 @@ module _ (α : ListOrderedMultimap) (g : WellLinked α) (k : ℕ) where
   pub unoccupied : (c : Call) → (present k (state_of α) ≡ false → step c (state_of α) ≡ (refusing c 9, state_of α))
       → {A : Type 0} (f : A → Answer) (r : Result A Refusal) (e : Refusal) → Occupying (present k (state_of α)) (Err e) → IsErrAnd r (λ y. y ≡ e)
       → Does linked c α (record { answer = answered f r; slices = lent c }) α
-  unoccupied c s f r e o i =
-      let q = err_from_is_err_and r i in
-      rw (q.1, q.2, o.1) (does_refuse linked c α 9 g (s o.0))
+  unoccupied c s f r e o i = handed_on f r e i (rw o.1 (does_refuse linked c α 9 g (s o.0)))

@@ -1,8 +1,8 @@
 -- `adding::append` meets its contract. Assumes nothing.
 use mathlib.Core.Path.{refl, sym, ◌∙◌}
 use Rattle.std.proofs.lemmas.Bool.{leb-true, leb-false}
-use Rattle.std.proofs.lemmas.Result.{err_from_is_err_and}
 use Rattle.steps.specs.Call.{append, present}
+use Rattle.answers.proofs.Handed.{handed_on}
 use Rattle.multimap.proofs.Posts.{append_full}
 use Rattle.adding.proofs.Appends.{does_known, does_new}
 use Rattle.adding.proofs.Strange.{strange}
@@ -24,8 +24,7 @@ returns-else-is_full c =
 
 pub returns-in_err-admit-in-Absent : goal.returns-in_err-admit-in-Absent
 returns-in_err-admit-in-Absent c =
-    λ wl. let p = err_from_is_err_and c.from_residual-in_err-admit-in-Absent.result c.from_residual-in_err-admit-in-Absent.ensures.1 in
-    rw (p.1, p.2)
+    λ wl. handed_on present _ _ c.from_residual-in_err-admit-in-Absent.ensures.1
     (does_new c.args.map.now wl c.args.poster c.args.k c.args.v c.in_ok-check_poster.ensures _ _
     (sym c.find.ensures ∙ c.in-Absent.is) _ _ c.in_err-admit-in-Absent.ensures)
 

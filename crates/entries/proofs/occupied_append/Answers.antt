@@ -1,9 +1,9 @@
 -- `entries::occupied_append` meets its contract. Assumes nothing.
 use mathlib.Core.Path.{refl}
-use Rattle.std.proofs.lemmas.Result.{err_from_is_err_and}
 use Rattle.answers.specs.Answers.{done_of}
 use Rattle.steps.specs.Call.{occupied_append}
 use Rattle.steps.proofs.Checks.{occupied_absent}
+use Rattle.answers.proofs.Handed.{handed_on}
 use Rattle.adding.proofs.Strange.{strange}
 use Rattle.entries.proofs.Calls.{unoccupied, appended}
 use Rattle.entries.proofs.occupied_append.Goals as goal
@@ -20,8 +20,8 @@ returns-in_err-check_occupied c =
 
 pub returns-in_err-append : goal.returns-in_err-append
 returns-in_err-append c =
-    λ wl. let p = err_from_is_err_and c.from_residual-in_err-append.result c.from_residual-in_err-append.ensures.1 in
-    rw (p.1, p.2) (appended c.args.map.now wl c.args.k c.args.poster c.args.v c.in_ok-check_poster.ensures (c.in_ok-check_occupied.ensures wl) _ _ (c.in_err-append.ensures wl))
+    λ wl. handed_on done_of _ _ c.from_residual-in_err-append.ensures.1
+    (appended c.args.map.now wl c.args.k c.args.poster c.args.v c.in_ok-check_poster.ensures (c.in_ok-check_occupied.ensures wl) _ _ (c.in_err-append.ensures wl))
 
 pub returns : goal.returns
 returns c = λ wl. appended c.args.map.now wl c.args.k c.args.poster c.args.v c.in_ok-check_poster.ensures (c.in_ok-check_occupied.ensures wl) _ _ (c.in_ok-append.ensures wl)

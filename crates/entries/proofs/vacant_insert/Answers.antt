@@ -1,8 +1,8 @@
 -- `entries::vacant_insert` meets its contract. Assumes nothing.
 use mathlib.Core.Path.{refl}
-use Rattle.std.proofs.lemmas.Result.{err_from_is_err_and}
 use Rattle.answers.specs.Answers.{done_of}
 use Rattle.steps.specs.Call.{vacant_insert}
+use Rattle.answers.proofs.Handed.{handed_on}
 use Rattle.adding.proofs.Strange.{strange}
 use Rattle.entries.proofs.Calls.{there, none_such, not_new, let_in}
 use Rattle.entries.proofs.vacant_insert.Goals as goal
@@ -18,8 +18,7 @@ returns-in_default c =
 
 pub returns-in_err-append : goal.returns-in_err-append
 returns-in_err-append c =
-    λ wl. let p = err_from_is_err_and c.from_residual-in_err-append.result c.from_residual-in_err-append.ensures.1 in
-    rw (p.1, p.2)
+    λ wl. handed_on done_of _ _ c.from_residual-in_err-append.ensures.1
     (let_in c.args.map.now wl c.args.k c.args.poster c.args.v c.in_ok-check_poster.ensures (none_such c.args.map.now wl c.args.k c.in-Vacant.ensures.reads) _ _ (c.in_err-append.ensures wl))
 
 pub returns : goal.returns

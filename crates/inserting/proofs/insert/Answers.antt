@@ -1,8 +1,8 @@
 -- `inserting::insert` meets its contract. Assumes nothing.
 use mathlib.Core.Path.{refl, sym, ◌∙◌}
-use Rattle.std.proofs.lemmas.Result.{err_from_is_err_and}
 use Rattle.answers.specs.Answers.{round_of}
 use Rattle.steps.specs.Call.{insert}
+use Rattle.answers.proofs.Handed.{handed_on}
 use Rattle.adding.proofs.Strange.{strange}
 use Rattle.inserting.proofs.Inserting.{does_known, does_new}
 use Rattle.inserting.proofs.insert.Goals as goal
@@ -18,8 +18,7 @@ returns-in-At c =
 
 pub returns-in_err-admit-in-Absent : goal.returns-in_err-admit-in-Absent
 returns-in_err-admit-in-Absent c =
-    λ wl. let p = err_from_is_err_and c.from_residual-in_err-admit-in-Absent.result c.from_residual-in_err-admit-in-Absent.ensures.1 in
-    rw (p.1, p.2)
+    λ wl. handed_on round_of _ _ c.from_residual-in_err-admit-in-Absent.ensures.1
     (does_new c.args.map.now wl c.args.poster c.args.k c.args.v c.in_ok-check_poster.ensures _ _
     (sym c.find.ensures ∙ c.in-Absent.is) _ _ c.in_err-admit-in-Absent.ensures)
 

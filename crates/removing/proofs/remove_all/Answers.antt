@@ -1,6 +1,7 @@
 -- `removing::remove_all` meets its contract. Assumes nothing.
 use mathlib.Core.Path.{refl, sym, ◌∙◌}
-use Rattle.std.proofs.lemmas.Result.{err_from_is_err_and}
+use Rattle.steps.specs.Call.{count}
+use Rattle.answers.proofs.Handed.{handed_on}
 use Rattle.removing.proofs.WritesOut.{does_all_none, does_short, does_all}
 use Rattle.removing.proofs.remove_all.Goals as goal
 
@@ -10,8 +11,7 @@ returns-in_default c =
 
 pub returns-in_err-n : goal.returns-in_err-n
 returns-in_err-n c =
-    λ wl. let p = err_from_is_err_and c.from_residual.result c.from_residual.ensures.1 in
-    rw (p.1, p.2)
+    λ wl. handed_on count _ _ c.from_residual.ensures.1
     (does_short c.args.map.now wl c.args.k c.args.out.now _ _ _ (sym c.find.ensures ∙ c.in-At.is)
     c.head-head.ensures c.size-size.ensures c.in_err-n.ensures _ refl)
 
