@@ -9,7 +9,7 @@ ghost use Rattle.printing.specs.Said.{Roomy};
 
 use anyhow::{Context, Result};
 use lines::Unfinished;
-use multimap::ListOrderedMultimap;
+use multimap::{Limits, ListOrderedMultimap};
 use std::env::{Env, FillError};
 use std::io::Read;
 
@@ -29,7 +29,10 @@ fn has_argument(rt: &impl Env) -> bool {
 // Answers the input on a new map, chunk by chunk, until it ends. A proved loop has to end, and nothing says that the input does: no run takes as
 // many turns.
 fn answer_input(rt: &impl Print, input: &mut impl Read) -> Result<()> {
-    let mut map = multimap::new(256, 1024);
+    let mut map = multimap::new(Limits {
+        members: 256,
+        rounds: 1024,
+    });
     let mut chunk = [0; 65536];
     let mut out = [0; 65536];
     let mut line = Unfinished::new();

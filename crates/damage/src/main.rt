@@ -6,12 +6,16 @@ ghost use Rattle.multimap.specs.WellLinked.{WellLinked};
 
 use index::KeyPlace;
 use links::Place;
-use multimap::{ListOrderedMultimap, ValuePlace};
+use multimap::{Limits, ListOrderedMultimap, ValuePlace};
 use std::io;
 
 fn main(rt: HostRuntime) -> io::Result<()> {
     damaged(&rt, "as it is", |_| {})?;
-    damaged(&rt, "the empty map", |map| *map = multimap::new(0, 0))?;
+    damaged(
+        &rt,
+        "the empty map",
+        |map| *map = multimap::new(Limits::NONE),
+    )?;
     rounds(&rt)?;
     round_counts(&rt)?;
     members(&rt)?;
@@ -29,7 +33,10 @@ fn main(rt: HostRuntime) -> io::Result<()> {
 fn sample() -> ListOrderedMultimap
     ensures { WellLinked result }
 {
-    let mut map = multimap::new(3, 5);
+    let mut map = multimap::new(Limits {
+        members: 3,
+        rounds: 5,
+    });
     let _ = adding::append(&mut map, 0, 7, 10);
     let _ = adding::append(&mut map, 0, 9, 20);
     let _ = adding::append(&mut map, 0, 7, 11);

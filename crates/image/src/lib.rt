@@ -7,7 +7,7 @@ ghost use Rattle.std.specs.Prelude.{◌≡◌, ◌+◌, ◌*◌, ◌≤◌, ℕ,
 ghost use Rattle.std.proofs.lemmas.List.Edits.{sets};
 ghost use Rattle.answers.specs.Answers.{answered, done_of};
 ghost use Rattle.steps.specs.Call as C;
-ghost use Rattle.steps.specs.State.{limit, empty};
+ghost use Rattle.steps.specs.State.{empty};
 ghost use Rattle.steps.specs.Step.{over, write};
 ghost use Rattle.multimap.specs.Map.{limits_of, state_of};
 ghost use Rattle.multimap.specs.WellLinked.{WellLinked};
@@ -17,7 +17,7 @@ ghost use Rattle.image.specs.Answers.{Reads};
 ghost use Rattle.image.specs.Parts.{RightSizes, Said, Restored};
 
 use answers::Refusal;
-use multimap::ListOrderedMultimap;
+use multimap::{Limits, ListOrderedMultimap};
 
 // Writes the image of a well-linked map to the front of `out`, and says how long it is.
 pub fn write_image(map: &ListOrderedMultimap, out: &mut [u8]) -> Result<usize, Refusal>
@@ -34,18 +34,17 @@ pub fn write_image(map: &ListOrderedMultimap, out: &mut [u8]) -> Result<usize, R
 // Reads an image into these limits, whatever the map holds; a refused reading leaves the map that is made new with them.
 pub fn read_image(
     map: &mut ListOrderedMultimap,
-    members_limit: u64,
-    rounds_limit: u64,
+    limits: Limits,
     bytes: &[u8],
 ) -> Result<(), Refusal>
-    ensures { Reads (limit members_limit rounds_limit) bytes.now (answered done_of result) map.new }
+    ensures { Reads limits bytes.now (answered done_of result) map.new }
 {
-    packing::new(map, members_limit, rounds_limit)?;
-    let (n, m) = read_sizes(bytes, members_limit, rounds_limit)?;
+    packing::new(map, limits)?;
+    let (n, m) = read_sizes(bytes, limits)?;
     if restore(map, bytes, n, m) {
         return Ok(());
     }
-    *map = multimap::new(members_limit, rounds_limit);
+    *map = multimap::new(limits);
     Err(Refusal::WrongMembers)
 }
 
@@ -78,15 +77,15 @@ fn put_along(map: &ListOrderedMultimap, out: &mut [u8])
 }
 
 // Reads the sizes, how many rounds and members, and checks them, with the image's length, in the order of the table.
-fn read_sizes(s: &[u8], members_limit: u64, rounds_limit: u64) -> Result<(usize, u64), Refusal>
-    ensures { Said (limit members_limit rounds_limit) s.now result }
+fn read_sizes(s: &[u8], limits: Limits) -> Result<(usize, u64), Refusal>
+    ensures { Said limits s.now result }
 {
     if s.len() < 8 {
         return Err(Refusal::TooShort);
     }
     let n = u32::from_le_bytes(bytes_at(s, 0)) as u64;
     let m = u32::from_le_bytes(bytes_at(s, 4)) as u64;
-    if rounds_limit < n || members_limit < m {
+    if limits.rounds < n || limits.members < m {
         return Err(Refusal::TooMany);
     }
     let rounds = n as usize;

@@ -4,7 +4,7 @@
 
 #![tactic(auto)]
 
-use multimap::ListOrderedMultimap;
+use multimap::{Limits, ListOrderedMultimap};
 use std::io;
 use std::io::{ErrorKind, Read};
 
@@ -34,7 +34,11 @@ fn turn(rt: &impl Print, input: &mut impl Read) -> io::Result<bool> {
         return Ok(false);
     }
     if let Some(image) = bytes.get(..length) {
-        show(rt, image, two_bytes(c, d), two_bytes(e, f))?;
+        let limits = Limits {
+            members: two_bytes(c, d),
+            rounds: two_bytes(e, f),
+        };
+        show(rt, image, limits)?;
     }
     Ok(true)
 }
@@ -56,9 +60,9 @@ fn read_front(input: &mut impl Read, bytes: &mut [u8], length: usize) -> io::Res
 }
 
 // Reads the image into these limits, and prints its line.
-fn show(rt: &impl Print, s: &[u8], members_limit: u64, rounds_limit: u64) -> io::Result<()> {
-    let mut map = multimap::new(0, 0);
-    if let Err(refusal) = image::read_image(&mut map, members_limit, rounds_limit, s) {
+fn show(rt: &impl Print, s: &[u8], limits: Limits) -> io::Result<()> {
+    let mut map = multimap::new(Limits::NONE);
+    if let Err(refusal) = image::read_image(&mut map, limits, s) {
         print!(rt; "refused {}", refusal.number())?;
         print_limits(rt, &map)?;
         return println!(rt);

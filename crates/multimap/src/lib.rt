@@ -3,7 +3,7 @@
 #![tactic(auto)]
 
 ghost use Rattle.std.specs.Prelude.{◌≡◌, ltb};
-ghost use Rattle.steps.specs.State.{empty, limit};
+ghost use Rattle.steps.specs.State.{empty};
 ghost use Rattle.steps.specs.Step.{too_high, make_of};
 ghost use Rattle.steps.specs.Proper.{Allowed};
 ghost use Rattle.index.specs.Search.{search as searched};
@@ -46,6 +46,38 @@ impl Place for ValuePlace {
 
     fn new(n: u16) -> ValuePlace {
         ValuePlace(n)
+    }
+}
+
+// How many members and how many rounds a map may hold. A contract sees the limits of the steps.
+#[derive(Clone, Copy)]
+pub struct Limits {
+    pub members: u64,
+    pub rounds: u64,
+}
+
+impl Model for Limits {
+    ghost use Rattle.steps.specs.State as S;
+
+    ghost Value = { S.Limits };
+
+    ghost view = { λ l. S.limit l.members l.rounds };
+
+    ghost inverse = { λ l. record { members = l.members; rounds = l.rounds } };
+}
+
+impl Limits {
+    // Lets no member in and no round: the limits of a map whose making was refused.
+    pub const NONE: Limits = Limits {
+        members: 0,
+        rounds: 0,
+    };
+
+    // Says whether a map may not have these limits: refusal 15.
+    pub fn are_too_high(self) -> bool
+        ensures { result ≡ too_high self }
+    {
+        (MEMBERS as u64) < self.members || (ROUNDS as u64) < self.rounds
     }
 }
 
@@ -138,20 +170,13 @@ impl ListOrderedMultimap {
 
 // Makes the empty map with these limits, and with both 0 where it may not have them. Its own copy of the map is off the stack before the caller goes on.
 #[inline(never)]
-pub fn new(members: u64, rounds: u64) -> ListOrderedMultimap
-    ensures { WellLinked result × (state_of result ≡ (make_of (limit members rounds)).1) }
+pub fn new(limits: Limits) -> ListOrderedMultimap
+    ensures { WellLinked result × (state_of result ≡ (make_of limits).1) }
 {
-    if too_high(members, rounds) {
-        return bare(0, 0);
+    if limits.are_too_high() {
+        return bare(Limits::NONE);
     }
-    bare(members as u16, rounds as u16)
-}
-
-// Says whether a map may not have these limits: refusal 15.
-pub fn too_high(members: u64, rounds: u64) -> bool
-    ensures { result ≡ too_high (limit members rounds) }
-{
-    (MEMBERS as u64) < members || (ROUNDS as u64) < rounds
+    bare(limits)
 }
 
 // Says whether there is no such poster: refusal 16.
@@ -170,9 +195,9 @@ pub fn base(key: KeyPlace) -> ValuePlace
 }
 
 // Makes the map with no place in use that has these limits.
-fn bare(keys_limit: u16, values_limit: u16) -> ListOrderedMultimap
-    requires { Allowed (limit keys_limit values_limit) }
-    ensures { WellLinked result × (state_of result ≡ empty (limit keys_limit values_limit)) }
+fn bare(limits: Limits) -> ListOrderedMultimap
+    requires { Allowed limits }
+    ensures { WellLinked result × (state_of result ≡ empty limits) }
 {
     let first_key = KeyPlace::new(0);
     let first_value = ValuePlace(0);
@@ -188,8 +213,8 @@ fn bare(keys_limit: u16, values_limit: u16) -> ListOrderedMultimap
         next_index: [first_value; 1280],
         previous_index: [first_value; 1280],
         index: index::empty(),
-        members: Counts::unused(keys_limit),
-        rounds: Counts::unused(values_limit),
+        members: Counts::unused(limits.members as u16),
+        rounds: Counts::unused(limits.rounds as u16),
         taken: [0; 16],
     };
     out.next_key[256] = KeyPlace::new(MEMBERS);

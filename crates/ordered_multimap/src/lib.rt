@@ -8,7 +8,6 @@ pub mod vacant_entry;
 
 ghost use Rattle.std.specs.Prelude.{◌≡◌};
 ghost use Rattle.std.specs.Fn.{FnOnceReturnsAtMut};
-ghost use Rattle.steps.specs.State.{limit};
 ghost use Rattle.steps.specs.Call.{lend};
 ghost use Rattle.steps.specs.Call as C;
 ghost use Rattle.steps.specs.Step.{say, write};
@@ -19,7 +18,7 @@ ghost use Rattle.answers.specs.Answers.{answer_of, answered, done_of, entry_of, 
 ghost use Rattle.turn.specs.Turned.{Called};
 
 use answers::{Answer, Entry, Popped, Refusal};
-pub use multimap::ListOrderedMultimap;
+pub use multimap::{Limits, ListOrderedMultimap};
 
 // The map that a call hands back, and what it answers.
 #[derive(Clone, Copy)]
@@ -29,11 +28,11 @@ pub struct Reply<A> {
 }
 
 // Makes the empty map with these limits; a refused making gives it with both limits 0.
-pub fn new(members: u64, rounds: u64) -> Reply<Result<(), Refusal>>
-    ensures { Makes (limit members rounds) (answered done_of result.answer) result.map }
+pub fn new(limits: Limits) -> Reply<Result<(), Refusal>>
+    ensures { Makes limits (answered done_of result.answer) result.map }
 {
-    let map = multimap::new(members, rounds);
-    if multimap::too_high(members, rounds) {
+    let map = multimap::new(limits);
+    if limits.are_too_high() {
         return Reply {
             map,
             answer: Err(Refusal::LimitsAbove),

@@ -63,7 +63,7 @@ module _ (a : ListOrderedMultimap) where
       (end_cell a.next_value 1025 1024 s.next_value (omega arith))
       (end_cell a.previous_value 1025 1024 s.previous_value (omega arith))
       (end_cell a.next_key 257 256 s.next_key (omega arith)) (end_cell a.previous_key 257 256 s.previous_key (omega arith))
-      (cleared_sized s) (empty_holds a.keys) l t
+      (cleared_sized s) (empty_holds a.keys) refl l t
 
 step_clear : (s : State) → step clear s ≡ (say done, nothing s.taken s.limits)
 unfolding step checks act
@@ -97,11 +97,11 @@ module _ (a : ListOrderedMultimap) (g : WellLinked a) where
 -- a new map
 module _ (l : Limits) where
   abbrev new_map : ListOrderedMultimap
-  new_map = cleared (zeros l.members l.rounds)
+  new_map = cleared (zeros l)
 
   new_is : Allowed l → WellLinked new_map × (state_of new_map ≡ empty l)
   new_is h =
-      cleared_map (zeros l.members l.rounds)
+      cleared_map (zeros l)
       record {
         keys = length-replicate {A = ℕ} 256 0;
         lengths = length-replicate {A = ℕ} 256 0;
@@ -124,7 +124,7 @@ module _ (l : Limits) where
       rw e (record { answer = sym (ap (λ (r : Answer × State). r.0) (made_done l h)); state = n.1 ∙ sym (ap (λ (r : Answer × State). r.1) (made_done l h)); linked = n.0 })
 
 -- one that may not be made
-pub makes_none : (l : Limits) {m : ListOrderedMultimap} → m ≡ cleared (zeros 0 0) → too_high l ≡ true → Makes l (refused 15) m
+pub makes_none : (l : Limits) {m : ListOrderedMultimap} → m ≡ cleared (zeros (limit 0 0)) → too_high l ≡ true → Makes l (refused 15) m
 makes_none l e h =
     let n = new_is (limit 0 0) (may_have (limit 0 0) refl refl) in
     rw e (record { answer = sym (ap (λ (r : Answer × State). r.0) (made_refused l h)); state = n.1 ∙ sym (ap (λ (r : Answer × State). r.1) (made_refused l h)); linked = n.0 })

@@ -1,5 +1,6 @@
 -- A map with no place in use.
-use Rattle.std.specs.Prelude.{ℕ, replicate, set}
+use Rattle.std.specs.Prelude.{replicate, set}
+use Rattle.steps.specs.State.{Limits}
 use Rattle.links.specs.Stores.{unused}
 use Rattle.index.specs.Table.{empty_index}
 use Rattle.multimap.specs.declared.ListOrderedMultimap.{ListOrderedMultimap}
@@ -18,8 +19,8 @@ cleared a =
     }
 
 -- All arrays hold zeros, with these limits.
-abbrev pub zeros : ℕ → ℕ → ListOrderedMultimap
-zeros members rounds =
+abbrev pub zeros : Limits → ListOrderedMultimap
+zeros l =
     record {
       keys = replicate 256 0;
       lengths = replicate 256 0;
@@ -32,7 +33,7 @@ zeros members rounds =
       next_index = replicate 1280 0;
       previous_index = replicate 1280 0;
       index = empty_index;
-      members = unused members;
-      rounds = unused rounds;
+      members = unused l.members;
+      rounds = unused l.rounds;
       taken = replicate 16 0;
     }

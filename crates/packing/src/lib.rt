@@ -6,7 +6,7 @@
 ghost use Rattle.std.specs.Prelude.{◌≡◌, List, ℕ, length};
 ghost use Rattle.answers.specs.Answers.{answered, done_of};
 ghost use Rattle.steps.specs.Call as C;
-ghost use Rattle.steps.specs.State.{limit};
+ghost use Rattle.steps.specs.Proper.{Allowed};
 ghost use Rattle.steps.specs.Step.{say};
 ghost use Rattle.steps.specs.Trace.{Does};
 ghost use Rattle.multimap.specs.Making.{Makes};
@@ -18,21 +18,17 @@ ghost use Rattle.packing.specs.Cleared.{cleared, zeros};
 use answers::Refusal;
 use index::{Found, KeyPlace};
 use links::{Counts, Place};
-use multimap::{ListOrderedMultimap, MEMBERS, ROUNDS, ValuePlace};
+use multimap::{Limits, ListOrderedMultimap, MEMBERS, ROUNDS, ValuePlace};
 
 // Makes the empty map with these limits, whatever the map holds; a refused making leaves it with both limits 0.
-pub fn new(
-    map: &mut ListOrderedMultimap,
-    members_limit: u64,
-    rounds_limit: u64,
-) -> Result<(), Refusal>
-    ensures { Makes (limit members_limit rounds_limit) (answered done_of result) map.new }
+pub fn new(map: &mut ListOrderedMultimap, limits: Limits) -> Result<(), Refusal>
+    ensures { Makes limits (answered done_of result) map.new }
 {
-    if multimap::too_high(members_limit, rounds_limit) {
-        reset(map, 0, 0);
+    if limits.are_too_high() {
+        reset(map, Limits::NONE);
         return Err(Refusal::LimitsAbove);
     }
-    reset(map, members_limit as u16, rounds_limit as u16);
+    reset(map, limits);
     Ok(())
 }
 
@@ -70,8 +66,9 @@ pub fn pack_to(
 
 // Makes the empty map with these limits field by field: a map made by value first would take a second one's stack, and write what lies between
 // two fields, which the C interface keeps.
-fn reset(map: &mut ListOrderedMultimap, members_limit: u16, rounds_limit: u16)
-    ensures { map.new ≡ cleared (zeros members_limit rounds_limit) }
+fn reset(map: &mut ListOrderedMultimap, limits: Limits)
+    requires { Allowed limits }
+    ensures { map.new ≡ cleared (zeros limits) }
 {
     let first_key = KeyPlace::new(0);
     let first_value = ValuePlace::new(0);
@@ -97,8 +94,8 @@ fn reset(map: &mut ListOrderedMultimap, members_limit: u16, rounds_limit: u16)
     map.next_index = next_index;
     map.previous_index = previous_index;
     map.taken = taken;
-    map.members.limit = members_limit;
-    map.rounds.limit = rounds_limit;
+    map.members.limit = limits.members as u16;
+    map.rounds.limit = limits.rounds as u16;
     vacate(map);
 }
 

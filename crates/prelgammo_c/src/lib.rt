@@ -15,7 +15,7 @@ ghost use Rattle.image.specs.Answers.{Writes, Restores};
 ghost use Rattle.well_linked.specs.Told.{Tells};
 ghost use Rattle.multimap.specs.declared.ListOrderedMultimap.{ListOrderedMultimap};
 
-use multimap::ListOrderedMultimap;
+use multimap::{Limits, ListOrderedMultimap};
 
 // Makes the empty map with these limits, whatever the arrays hold; a refused making leaves it with both limits 0.
 #[unsafe(no_mangle)]
@@ -27,7 +27,11 @@ pub extern "C" fn om_new(
 )
     ensures { Made (limit members_limit rounds_limit) map.new answer.new }
 {
-    answers::tell(answer, packing::new(map, members_limit, rounds_limit));
+    let limits = Limits {
+        members: members_limit,
+        rounds: rounds_limit,
+    };
+    answers::tell(answer, packing::new(map, limits));
 }
 
 // Empties the map, which stays as it is where it holds no round: then it has no member either. T stays.
@@ -344,15 +348,11 @@ pub extern "C" fn replay(
 ) -> u64
     ensures { (m : ListOrderedMultimap) × Played (limit members_limit rounds_limit) calls.now outs.old outs2.old marks.now answers.old outs.new outs2.new answers.new m result }
 {
-    replay::replay(
-        members_limit,
-        rounds_limit,
-        calls,
-        outs,
-        outs2,
-        marks,
-        answers,
-    )
+    let limits = Limits {
+        members: members_limit,
+        rounds: rounds_limit,
+    };
+    replay::replay(limits, calls, outs, outs2, marks, answers)
 }
 
 // Writes the image of the map to the front of `out`.
@@ -374,10 +374,11 @@ pub extern "C" fn om_read_image(
 )
     ensures { Restores (limit members_limit rounds_limit) bytes.now map.new answer.new }
 {
-    answers::tell(
-        answer,
-        image::read_image(map, members_limit, rounds_limit, bytes),
-    );
+    let limits = Limits {
+        members: members_limit,
+        rounds: rounds_limit,
+    };
+    answers::tell(answer, image::read_image(map, limits, bytes));
 }
 
 // Says whether a map is well-linked by a number: 1 for yes, 0 for no.

@@ -4,7 +4,6 @@
 #![tactic(auto)]
 
 ghost use Rattle.std.specs.Prelude.{◌≡◌};
-ghost use Rattle.steps.specs.State.{limit};
 ghost use Rattle.steps.specs.Call as C;
 ghost use Rattle.steps.specs.Step.{write};
 ghost use Rattle.multimap.specs.Map.{state_of};
@@ -15,7 +14,7 @@ ghost use Rattle.image.specs.Image.{write_of};
 ghost use Rattle.image.specs.Answers.{Reads};
 
 use answers::Refusal;
-use multimap::ListOrderedMultimap;
+use multimap::{Limits, ListOrderedMultimap};
 use ordered_multimap::Reply;
 
 // Writes the image of the map to the front of `out`.
@@ -28,11 +27,11 @@ pub fn write_image(m: ListOrderedMultimap, out: &mut [u8]) -> Reply<Result<usize
 }
 
 // Reads an image into these limits; a refused reading gives the map that `new` makes with them.
-pub fn read_image(members_limit: u64, rounds_limit: u64, bytes: &[u8]) -> Reply<Result<(), Refusal>>
-    ensures { Reads (limit members_limit rounds_limit) bytes.now (answered done_of result.answer) result.map }
+pub fn read_image(limits: Limits, bytes: &[u8]) -> Reply<Result<(), Refusal>>
+    ensures { Reads limits bytes.now (answered done_of result.answer) result.map }
 {
-    let mut map = multimap::new(0, 0);
-    let answer = image::read_image(&mut map, members_limit, rounds_limit, bytes);
+    let mut map = multimap::new(Limits::NONE);
+    let answer = image::read_image(&mut map, limits, bytes);
     Reply { map, answer }
 }
 

@@ -3,7 +3,6 @@
 #![tactic(auto)]
 
 ghost use Rattle.std.specs.Prelude.{◌≡◌, length};
-ghost use Rattle.steps.specs.State.{limit};
 ghost use Rattle.steps.specs.Call.{call_of, lends as lends_of};
 ghost use Rattle.steps.specs.Told.{Told};
 ghost use Rattle.multimap.specs.declared.ListOrderedMultimap.{ListOrderedMultimap};
@@ -11,23 +10,22 @@ ghost use Rattle.multimap.specs.WellLinked.{WellLinked, linked};
 ghost use Rattle.replay.specs.Place.{head_of, known_head, fits_at, Ready, Small, Past, Within, AllRan, Advanced};
 ghost use Rattle.replay.specs.Played.{Played};
 
-use multimap::ListOrderedMultimap;
+use multimap::{Limits, ListOrderedMultimap};
 
 // Runs the calls that the slices hold, on the new map with these limits. The out slices, and after each call its answer, are written to `outs`,
 // `outs2` and `answers`. A list that is cut off or holds what is no call is run up to there. The answer is how many calls were run.
 // C lends the slices one by one.
 pub fn replay(
-    members_limit: u64,
-    rounds_limit: u64,
+    limits: Limits,
     calls: &[u64],
     outs: &mut [u64],
     outs2: &mut [u64],
     marks: &[u8],
     answers: &mut [u64],
 ) -> u64
-    ensures { (m : ListOrderedMultimap) × Played (limit members_limit rounds_limit) calls.now outs.old outs2.old marks.now answers.old outs.new outs2.new answers.new m result }
+    ensures { (m : ListOrderedMultimap) × Played limits calls.now outs.old outs2.old marks.now answers.old outs.new outs2.new answers.new m result }
 {
-    let mut map = multimap::new(members_limit, rounds_limit);
+    let mut map = multimap::new(limits);
     let mut tape = Tape {
         calls,
         outs,

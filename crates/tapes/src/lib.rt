@@ -6,12 +6,12 @@ mod parts;
 mod rows;
 
 ghost use Rattle.std.specs.Prelude.{◌≡◌, ◌≤◌, length};
-ghost use Rattle.steps.specs.State.{limit};
 ghost use Rattle.parsing.specs.Split.{Held};
 ghost use Rattle.tapes.specs.Kept.{Kept};
 ghost use Rattle.tapes.specs.Parts.{left_after};
 ghost use Rattle.tapes.specs.Printed.{left_text, run_text, parts_text, list_text, lists_after, lists_text};
 
+use multimap::Limits;
 use parts::{Parts, read_marks, read_numbers};
 use rows::Page;
 
@@ -44,25 +44,16 @@ fn print_left(page: &mut Page, ran: u64, answers: &[u64], outs: &[u64], outs2: &
 // Runs the calls that the slices hold on the new map with these limits, and prints what they leave.
 fn print_run(
     page: &mut Page,
-    members_limit: u64,
-    rounds_limit: u64,
+    limits: Limits,
     calls: &[u64],
     outs: &mut [u64],
     outs2: &mut [u64],
     marks: &[u8],
     answers: &mut [u64],
 )
-    ensures { Kept page.old (run_text (limit members_limit rounds_limit) calls.now outs.old outs2.old marks.now answers.old) page.new }
+    ensures { Kept page.old (run_text limits calls.now outs.old outs2.old marks.now answers.old) page.new }
 {
-    let ran = replay::replay(
-        members_limit,
-        rounds_limit,
-        calls,
-        outs,
-        outs2,
-        marks,
-        answers,
-    );
+    let ran = replay::replay(limits, calls, outs, outs2, marks, answers);
     print_left(page, ran, answers, outs, outs2);
 }
 
@@ -85,8 +76,10 @@ fn print_parts(parts: &mut Parts, page: &mut Page)
     let a = read_numbers(parts.next_part(), &mut answers);
     print_run(
         page,
-        limits[0],
-        limits[1],
+        Limits {
+            members: limits[0],
+            rounds: limits[1],
+        },
         &calls[..c],
         &mut outs[..o],
         &mut outs2[..o2],

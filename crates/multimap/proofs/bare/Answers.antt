@@ -30,4 +30,4 @@ returns c =
       index = length-replicate {A = ℕ} 512 65535;
       taken = length-replicate {A = ℕ} 16 0;
     }
-    (bare _ _ refl (λ p lp. get_or-replicate 512 p 65535 0 lp)) c.requires (none_taken 16))
+    (bare _ _ refl (λ p lp. get_or-replicate 512 p 65535 0 lp)) c.limits.view_is c.requires (none_taken 16))

@@ -3,8 +3,8 @@ use mathlib.Core.Path.{sym, ◌∙◌}
 use Rattle.packing.proofs.Clears.{makes_none, makes_new}
 use Rattle.packing.proofs.new.Goals as goal
 
-pub returns-then-too_high : goal.returns-then-too_high
-returns-then-too_high c = makes_none _ c.reset.ensures (sym c.too_high.ensures ∙ c.if-too_high.true)
+pub returns-then-are_too_high : goal.returns-then-are_too_high
+returns-then-are_too_high c = makes_none _ c.reset.ensures (sym c.are_too_high.ensures ∙ c.if-are_too_high.true)
 
 pub returns : goal.returns
-returns c = makes_new _ c.reset-2.ensures (sym c.too_high.ensures ∙ c.if-too_high.false)
+returns c = makes_new _ c.reset-2.ensures (sym c.are_too_high.ensures ∙ c.if-are_too_high.false)
