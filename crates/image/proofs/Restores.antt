@@ -166,20 +166,23 @@ module _ {l : Limits} {m : ListOrderedMultimap} {a : Answer} (k : Makes l a m) w
   -- ---- where the limits may be had
 
   module _ (ok : Allowed l) (s : List ℕ) where
-    -- the map that is made is ready for an image whose sizes are right
-    pub ready : {i j : ℕ} → RightSizes l s i j → WellLinked m × (state_of m ≡ empty (limits_of m)) × RightSizes (limits_of m) s i j
-    ready {i} {j} z = (k.linked, made_empty ok ∙ ap empty (sym (limits ok)), subst (λ (x : Limits). RightSizes x s i j) (sym (limits ok)) z)
+    -- sizes that are right for the limits are so for those of the map that is made
+    pub right_of : {i j : ℕ} → RightSizes l s i j → RightSizes (limits_of m) s i j
+    right_of {i} {j} = subst (λ (x : Limits). RightSizes x s i j) (sym (limits ok))
+
+    made_new : state_of m ≡ empty (limits_of m)
+    made_new = made_empty ok ∙ ap empty (sym (limits ok))
 
     -- by the sizes
     pub reads_refused : {n : ℕ} → read_of l s ≡ (refused n, empty l) → Reads l s (refused n) m
     reads_refused {n} = reads_as l s m (refused n) (empty l) k.linked (made_empty ok)
 
-    pub reads_done : {r : ListOrderedMultimap} → Reads (limits_of m) s done r → Reads l s done r
-    reads_done {r} = subst (λ (x : Limits). Reads x s done r) (limits ok)
+    pub reads_done : {r : ListOrderedMultimap} → (WellLinked m → state_of m ≡ empty (limits_of m) → Reads (limits_of m) s done r) → Reads l s done r
+    reads_done {r} p = subst (λ (x : Limits). Reads x s done r) (limits ok) (p k.linked made_new)
 
     -- by the number of members: the map is made once more
-    pub reads_members : read_of (limits_of m) s ≡ (refused 14, empty (limits_of m)) → {r : ListOrderedMultimap} → WellLinked r → state_of r ≡ (make_of l).1
-        → Reads l s (refused 14) r
-    reads_members e {r} g i =
+    pub reads_members : (WellLinked m → state_of m ≡ empty (limits_of m) → read_of (limits_of m) s ≡ (refused 14, empty (limits_of m)))
+        → {r : ListOrderedMultimap} → WellLinked r → state_of r ≡ (make_of l).1 → Reads l s (refused 14) r
+    reads_members p {r} g i =
         reads_as l s r (refused 14) (empty l) g (i ∙ ap (λ (t : Answer × State). t.1) (made_with l ok))
-        (subst (λ (x : Limits). read_of x s ≡ (refused 14, empty x)) (limits ok) e)
+        (subst (λ (x : Limits). read_of x s ≡ (refused 14, empty x)) (limits ok) (p k.linked made_new))

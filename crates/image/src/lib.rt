@@ -97,8 +97,8 @@ fn read_sizes(s: &[u8], limits: Limits) -> Result<(usize, u64), Refusal>
 
 // Appends the n pairs of an image to a new map. The answer is whether there was room for all of their members, and these are m.
 fn restore(map: &mut ListOrderedMultimap, s: &[u8], n: usize, m: u64) -> bool
-    requires { WellLinked map.old × (state_of map.old ≡ empty (limits_of map.old)) × RightSizes (limits_of map.old) s.now n m }
-    ensures { Restored (limits_of map.old) s.now result map.new }
+    requires { RightSizes (limits_of map.old) s.now n m }
+    ensures { WellLinked map.old → state_of map.old ≡ empty (limits_of map.old) → Restored (limits_of map.old) s.now result map.new }
 {
     let (ks, _) = s[8..].as_chunks::<8>();
     let (vs, _) = s[8 + 8 * n..].as_chunks::<8>();

@@ -1,7 +1,7 @@
 -- `image::read_image` meets its contract, by the laws of proofs/Restores.antt. Assumes nothing.
 use mathlib.Core.Path.{refl}
 use Rattle.std.proofs.lemmas.Result.{err_from_is_err_and}
-use Rattle.image.proofs.Restores.{made_allowed, reads_too_high, ready, reads_refused, reads_done, reads_members}
+use Rattle.image.proofs.Restores.{made_allowed, reads_too_high, right_of, reads_refused, reads_done, reads_members}
 use Rattle.image.proofs.read_image.Goals as goal
 
 pub returns-in_err-new : goal.returns-in_err-new
@@ -16,7 +16,7 @@ returns-in_err-n c =
     rw (p.1, p.2) (reads_refused c.in_ok-new.ensures ok c.args.bytes.now (c.in_err-n.ensures ok))
 
 pub restore-requires : goal.restore-requires
-restore-requires c = ready c.in_ok-new.ensures (made_allowed c.in_ok-new.ensures refl) c.args.bytes.now c.in_ok-n.ensures
+restore-requires c = right_of c.in_ok-new.ensures (made_allowed c.in_ok-new.ensures refl) c.args.bytes.now c.in_ok-n.ensures
 
 pub returns-then-restore : goal.returns-then-restore
 returns-then-restore c = reads_done c.in_ok-new.ensures (made_allowed c.in_ok-new.ensures refl) c.args.bytes.now c.if-restore.ensures

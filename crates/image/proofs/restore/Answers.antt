@@ -7,26 +7,29 @@ use Rattle.image.proofs.Restores.{restored_many, restored_by}
 use Rattle.image.proofs.restore.Goals as goal
 
 pub returns-in_default : goal.returns-in_default
-returns-in_default c =
+returns-in_default c g e =
     let s = c.args.s.now in
     let n = c.args.n in
     let i = c.loop-i.i in
-    let allowed = c.requires.0.limited.allowed in
-    restored_many _ s allowed c.requires.2
-    (building_stuck _ s n c.loop-i.invariant allowed.rounds c.requires.2.few c.loop-i-test.true
-    (nth_read s 8 n i c.loop-i-test.true (omega (arith, c.requires.2.long)) c.as_chunks.ensures.front c.from_le_bytes-k.ensures)
-    (nth_read s (8 + 8 * n) n i c.loop-i-test.true (omega (arith, c.requires.2.long)) c.as_chunks-2.ensures.front c.from_le_bytes-v.ensures) (c.in_default.ensures c.loop-i.invariant.linked))
+    let allowed = g.limited.allowed in
+    let built = c.loop-i.invariant g e in
+    restored_many _ s allowed c.requires
+    (building_stuck _ s n built allowed.rounds c.requires.few c.loop-i-test.true
+    (nth_read s 8 n i c.loop-i-test.true (omega (arith, c.requires.long)) c.as_chunks.ensures.front c.from_le_bytes-k.ensures)
+    (nth_read s (8 + 8 * n) n i c.loop-i-test.true (omega (arith, c.requires.long)) c.as_chunks-2.ensures.front c.from_le_bytes-v.ensures) (c.in_default.ensures built.linked))
 
 pub loop-i-preserved : goal.loop-i-preserved
-loop-i-preserved c =
+loop-i-preserved c g e =
     let s = c.args.s.now in
     let n = c.args.n in
     let i = c.loop-i.i in
-    building_one _ s n c.loop-i.invariant c.requires.0.limited.allowed.rounds c.requires.2.few c.loop-i-test.true
-    (nth_read s 8 n i c.loop-i-test.true (omega (arith, c.requires.2.long)) c.as_chunks.ensures.front c.from_le_bytes-k.ensures)
-    (nth_read s (8 + 8 * n) n i c.loop-i-test.true (omega (arith, c.requires.2.long)) c.as_chunks-2.ensures.front c.from_le_bytes-v.ensures) (c.in-Ok.ensures c.loop-i.invariant.linked)
+    let built = c.loop-i.invariant g e in
+    building_one _ s n built g.limited.allowed.rounds c.requires.few c.loop-i-test.true
+    (nth_read s 8 n i c.loop-i-test.true (omega (arith, c.requires.long)) c.as_chunks.ensures.front c.from_le_bytes-k.ensures)
+    (nth_read s (8 + 8 * n) n i c.loop-i-test.true (omega (arith, c.requires.long)) c.as_chunks-2.ensures.front c.from_le_bytes-v.ensures) (c.in-Ok.ensures built.linked)
 
 pub returns : goal.returns
-returns c =
-    restored_by _ c.args.s.now c.requires.0.limited.allowed c.requires.2 c.loop-i.map c.loop-i.invariant.linked
-    (building_all _ c.args.s.now c.args.n c.loop-i.invariant c.loop-i-test.false)
+returns c g e =
+    let built = c.loop-i.invariant g e in
+    restored_by _ c.args.s.now g.limited.allowed c.requires c.loop-i.map built.linked
+    (building_all _ c.args.s.now c.args.n built c.loop-i-test.false)
