@@ -11,9 +11,8 @@ ghost use Rattle.std.specs.Fn.{FnOnceReturnsAtMut};
 ghost use Rattle.steps.specs.Call.{lend};
 ghost use Rattle.steps.specs.Call as C;
 ghost use Rattle.steps.specs.Step.{say, write};
-ghost use Rattle.steps.specs.Trace.{Does};
 ghost use Rattle.multimap.specs.Making.{Makes};
-ghost use Rattle.multimap.specs.WellLinked.{Calls, WellLinked, linked};
+ghost use Rattle.multimap.specs.WellLinked.{Calls};
 ghost use Rattle.answers.specs.Answers.{answer_of, answered, done_of, entry_of, popped_of, round_of};
 ghost use Rattle.turn.specs.Turned.{Called};
 
@@ -123,8 +122,7 @@ pub fn retain(m: ListOrderedMultimap, marks: &[u8]) -> Reply<Result<usize, Refus
 
 // Moves the i-th pair to round place i and the i-th member to member place i.
 pub fn pack_to(m: ListOrderedMultimap, members: u64, rounds: u64) -> Reply<Result<(), Refusal>>
-    requires { WellLinked m }
-    ensures { Does linked (C.pack_to members rounds) m (say (answered done_of result.answer)) result.map }
+    ensures { Calls (C.pack_to members rounds) m (say (answered done_of result.answer)) result.map }
 {
     by_value(m, |map| packing::pack_to(map, members, rounds))
 }
@@ -218,7 +216,6 @@ pub fn call(
     out2: &mut [u64],
     marks: &[u8],
 ) -> Reply<Result<Answer, Refusal>>
-    requires { WellLinked m }
     ensures { Called op poster k v m result.map out.old out2.old marks.now out.new out2.new (answered answer_of result.answer) }
 {
     let mut map = m;

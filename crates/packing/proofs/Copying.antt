@@ -38,15 +38,9 @@ module _ (next : List ℕ) (root len : ℕ) where
   pub long : length (listed next root len) ≡ len
   long = length_walk (at next) (at next root) len
 
-  pub walk_none : {x : ℕ} → x ≡ at next root → Walked next root len 0 x
-  walk_none e = record { some = omega arith; here = e ∙ (walk_way (at next) (at next root) len).start }
-
   module _ (i x : ℕ) (w : Walked next root len i x) (more : i < len) where
     pub place_is : x ≡ get_or (listed next root len) i 0
     place_is = w.here ∙ nth_any xs i end 0 (rw long more)
-
-    pub turn_fits : Distinct (listed next root len) root → i < root
-    turn_fits d = omega (arith, long, d.few)
 
     pub place_fits : Distinct (listed next root len) root → x < root
     place_fits d = d.inside x (rw place_is (get_d_in xs i 0 (rw long more)))
@@ -63,19 +57,10 @@ module _ (next : List ℕ) (root len : ℕ) where
 pub record MembersTurned (keys next : List ℕ) (len i x : ℕ) (numbers ranks : List ℕ) : Type 0 where
   pub walked : Walked next 256 len i x
   pub copied : MembersCopied keys (listed next 256 len) i numbers ranks
-  pub numbers_long : length numbers ≡ 256
+  pub numbers_long : length numbers ≡ len
   pub ranks_long : length ranks ≡ 256
 
 module _ (keys next : List ℕ) (len : ℕ) (numbers ranks : List ℕ) where
-  pub members_none : {x : ℕ} → x ≡ at next 256 → length numbers ≡ 256 → length ranks ≡ 256 → MembersTurned keys next len 0 x numbers ranks
-  members_none e n r =
-      record {
-        walked = walk_none next 256 len e;
-        copied = record { number = λ j h. absurd (omega arith); rank = λ j h. absurd (omega arith) };
-        numbers_long = n;
-        ranks_long = r;
-      }
-
   module _ (i x : ℕ) (t : MembersTurned keys next len i x numbers ranks) where
     abbrev ks : List ℕ
     ks = listed next 256 len
@@ -104,7 +89,7 @@ module _ (keys next : List ℕ) (len : ℕ) (numbers ranks : List ℕ) where
                 record {
                   number =
                       rw en
-                      (copied_more (at keys) ks i numbers t.copied.number (rw t.numbers_long (turn_fits next 256 len i x t.walked more d))
+                      (copied_more (at keys) ks i numbers t.copied.number (rw t.numbers_long more)
                       (ek ∙ ap (at keys) is));
                   rank = rw er rank_more;
                 };
@@ -120,28 +105,15 @@ module _ (keys next : List ℕ) (len : ℕ) (numbers ranks : List ℕ) where
 pub record RoundsTurned (values key_index next : List ℕ) (len : ℕ) (ranks : List ℕ) (i x : ℕ) (owners scores : List ℕ) : Type 0 where
   pub walked : Walked next 1024 len i x
   pub copied : RoundsCopied values key_index ranks (listed next 1024 len) i owners scores
-  pub owners_long : length owners ≡ 1024
-  pub scores_long : length scores ≡ 1024
+  pub owners_long : length owners ≡ len
+  pub scores_long : length scores ≡ len
 
 module _ (values key_index next : List ℕ) (len : ℕ) (ranks owners scores : List ℕ) where
-  pub rounds_none : {x : ℕ} → x ≡ at next 1024 → length owners ≡ 1024 → length scores ≡ 1024
-      → RoundsTurned values key_index next len ranks 0 x owners scores
-  rounds_none e o s =
-      record {
-        walked = walk_none next 1024 len e;
-        copied = record { owner = λ j h. absurd (omega arith); score = λ j h. absurd (omega arith) };
-        owners_long = o;
-        scores_long = s;
-      }
-
   module _ (i x : ℕ) (t : RoundsTurned values key_index next len ranks i x owners scores) where
     abbrev vs : List ℕ
     vs = listed next 1024 len
 
-    module _ (d : Distinct vs 1024) (more : i < len) where
-      few : i < 1024
-      few = turn_fits next 1024 len i x t.walked more d
-
+    module _ (more : i < len) where
       round_is : x ≡ get_or vs i 0
       round_is = place_is next 1024 len i x t.walked more
 
@@ -154,10 +126,10 @@ module _ (values key_index next : List ℕ) (len : ℕ) (ranks owners scores : L
             copied =
                 record {
                   owner =
-                      rw eo (copied_more (λ q. at ranks (at key_index q)) vs i owners t.copied.owner (rw t.owners_long few)
+                      rw eo (copied_more (λ q. at ranks (at key_index q)) vs i owners t.copied.owner (rw t.owners_long more)
                       (er ∙ ap (at ranks) ek ∙ ap (λ (q : ℕ). at ranks (at key_index q)) round_is));
                   score =
-                      rw es (copied_more (at values) vs i scores t.copied.score (rw t.scores_long few) (ev ∙ ap (at values) round_is));
+                      rw es (copied_more (at values) vs i scores t.copied.score (rw t.scores_long more) (ev ∙ ap (at values) round_is));
                 };
             owners_long = rw eo (simp length-set t.owners_long);
             scores_long = rw es (simp length-set t.scores_long);

@@ -1,18 +1,16 @@
 -- The turns of `fill`: rounds are added one after the other, in the places from 0 on. Assumes nothing.
 use Prim.Native.Nat.{ℕ, ◌+◌, ◌<◌}
-use mathlib.Core.Path.{◌≡◌, refl, sym, ap, ◌∙◌, subst}
-use mathlib.Core.List.{List, [], ◌∷◌, ◌++◌, map}
+use mathlib.Core.Path.{◌≡◌, sym, ap, ◌∙◌, subst}
+use mathlib.Core.List.{List, [], ◌∷◌, ◌++◌}
 use native.Mathlib.Omega.{arith}
 use lib.ListN.{length}
 use Rattle.steps.specs.State.{Pair}
 use Rattle.links.specs.Route.{tally}
 use Rattle.links.specs.Places.{Places, order}
 use Rattle.links.specs.Stores.{spot}
-use Rattle.links.specs.declared.Counts.{Counts}
-use Rattle.links.proofs.Bare.{bare_order}
 use Rattle.links.proofs.Lists.{length_order}
 use Rattle.multimap.specs.declared.ListOrderedMultimap.{ListOrderedMultimap}
-use Rattle.multimap.specs.Map.{at, pair_at, pairs, rounds_of, members_of}
+use Rattle.multimap.specs.Map.{at, pairs, rounds_of, members_of}
 use Rattle.multimap.specs.Changes.{with_round}
 use Rattle.multimap.proofs.Builds.{round_order, round_pairs, round_sound}
 use Rattle.packing.specs.Building.{up_to, Fillable, Filled}
@@ -22,21 +20,6 @@ use Rattle.packing.proofs.Seats.{spot_up, fresh_up}
 module _ (owners scores : List ℕ) (n : ℕ) (m : ListOrderedMultimap) (g : Fillable owners n m) where
   abbrev pair : ℕ → Pair
   pair j = record { key = at m.keys (at owners j); value = at scores j }
-
-  no_rounds : order (rounds_of m) ≡ []
-  no_rounds = bare_order (rounds_of m) (ap (λ (cs : Counts). cs.len) g.none)
-
-  pub fill_none : Filled m owners scores 0 m
-  fill_none =
-      record {
-        sound = g.sound;
-        pairs = ap (map (pair_at m)) no_rounds;
-        places = no_rounds;
-        fresh = ap (λ (cs : Counts). cs.fresh) g.none;
-        keys = refl;
-        members = refl;
-        limits = refl;
-      }
 
   module _ (j : ℕ) (r : ListOrderedMultimap) (f : Filled m owners scores j r) (more : j < n) where
     held : r.rounds.len ≡ j

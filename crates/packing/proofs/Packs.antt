@@ -1,16 +1,15 @@
 -- The step of `pack_to`: when it is refused; and that a map that was copied out and taken in again is well-linked, stands for what it stood
 -- for, and has its places in order. Assumes nothing.
-use Prim.Native.Nat.{ℕ, ◌≤◌, ◌<◌}
+use Prim.Native.Nat.{ℕ, ◌≤◌, ◌<◌, min}
 use mathlib.Core.Path.{◌≡◌, refl, sym, ap, ◌∙◌, subst}
 use mathlib.Core.Bool.{true, false, ◌||◌, or-true}
 use mathlib.Core.Logic.{◌⊎◌, ⊎_elim}
 use borrow.Author.Tests.{lt-ltb, le-ltb}
-use lib.Seq.{length-take-le}
-use Rattle.std.proofs.lemmas.List.{get_or-take}
 use mathlib.Core.List.{List, map}
 use native.Mathlib.Omega.{arith}
 use lib.Dec.{ltb}
-use lib.ListN.{length, get_or, take}
+use lib.ListN.{length, get_or, take, replicate, length-replicate}
+use lib.Seq.{length-take-le}
 use Rattle.steps.specs.State.{State}
 use Rattle.steps.specs.Call.{pack_to, refused, done}
 use Rattle.steps.specs.Step.{step, checks, act, say}
@@ -225,58 +224,44 @@ module _ (m : ListOrderedMultimap) (g : WellLinked m) where
               );
             }
 
--- ---- as `pack` goes on: n members and l rounds are held
+-- ---- as `pack` goes on: the numbers of the members that are held, and as many owners and scores as rounds
 
-module _ (m : ListOrderedMultimap) (g : WellLinked m) {numbers ranks : List ℕ} (long : length numbers ≡ 256)
-    (a : MembersCopied m.keys (order (members_of m)) (length (order (members_of m))) numbers ranks) where
-  abbrev n : ℕ
-  n = m.members.len
+-- the front of an array that has room for n, cut at n or at the array's end
+front_long : (x : ℕ) (k n room : ℕ) → k ≡ min n room → n ≤ room → length (take k (replicate room x)) ≡ n
+front_long x k n room e few = length-take-le k (replicate room x) (omega (arith, length-replicate room x)) ∙ omega arith
 
-  front_members : MembersCopied m.keys (order (members_of m)) (length (order (members_of m))) (take m.members.len numbers) ranks
-  front_members = record { number = λ i h. get_or-take n numbers i 0 (rw (length_order (members_of m)) at h) ∙ a.number i h; rank = a.rank }
+module _ (m : ListOrderedMultimap) (g : WellLinked m) where
+  pub numbers_long : (x : ℕ) {k : ℕ} → k ≡ min m.members.len 256 → length (take k (replicate 256 x)) ≡ length (order (members_of m))
+  numbers_long x {k} e =
+      let n = length_order (members_of m) in
+      front_long x k (length (order (members_of m))) 256 (rw n e) (members_distinct m g).few
 
-  numbers_long : length (take m.members.len numbers) ≡ m.members.len
-  numbers_long = length-take-le n numbers (omega (arith, long, (members_distinct m g).few, length_order (members_of m)))
+  pub rounds_long : (x : ℕ) {k : ℕ} → k ≡ min m.rounds.len 1024 → length (take k (replicate 1024 x)) ≡ length (order (rounds_of m))
+  rounds_long x {k} e =
+      let n = length_order (rounds_of m) in
+      front_long x k (length (order (rounds_of m))) 1024 (rw n e) (rounds_distinct m g).few
 
-  pub seat_ready : {o : ListOrderedMultimap} → o ≡ cleared m
-      → Seated (take m.members.len numbers) (limits_of o) 0 o × Apart (take m.members.len numbers) (length (take m.members.len numbers))
-  seat_ready e = (none_seated m g (take n numbers) e, rw numbers_long (numbers_apart m g (take n numbers) ranks front_members))
-
-  module _ {owners scores : List ℕ} (long_owners : length owners ≡ 1024) (long_scores : length scores ≡ 1024)
+  module _ {numbers ranks : List ℕ} (long : length numbers ≡ length (order (members_of m)))
+      (a : MembersCopied m.keys (order (members_of m)) (length (order (members_of m))) numbers ranks)
+      {owners scores : List ℕ} (owners_long : length owners ≡ length (order (rounds_of m))) (scores_long : length scores ≡ length (order (rounds_of m)))
       (b : RoundsCopied m.values m.key_index ranks (order (rounds_of m)) (length (order (rounds_of m))) owners scores)
-      {o s : ListOrderedMultimap} (e : o ≡ cleared m) (t : Seated (take m.members.len numbers) (limits_of o) (length (take m.members.len numbers)) s) where
-    abbrev l : ℕ
-    l = m.rounds.len
+      {o s : ListOrderedMultimap} (e : o ≡ cleared m)
+      (t : Seated numbers (limits_of o) 0 o → Apart numbers (length numbers) → Seated numbers (limits_of o) (length numbers) s) where
+    members_held : length numbers ≡ m.members.len
+    members_held = long ∙ length_order (members_of m)
 
-    front_rounds : RoundsCopied m.values m.key_index ranks (order (rounds_of m)) (length (order (rounds_of m))) (take m.rounds.len owners) (take m.rounds.len scores)
-    front_rounds =
-        record {
-          owner = λ i h. get_or-take l owners i 0 (rw (length_order (rounds_of m)) at h) ∙ b.owner i h;
-          score = λ i h. get_or-take l scores i 0 (rw (length_order (rounds_of m)) at h) ∙ b.score i h;
-        }
+    rounds_held : length owners ≡ m.rounds.len
+    rounds_held = owners_long ∙ length_order (rounds_of m)
 
-    fits : m.rounds.len ≤ 1024
-    fits = omega (arith, (rounds_distinct m g).few, length_order (rounds_of m))
-
-    owners_long : length (take m.rounds.len owners) ≡ m.rounds.len
-    owners_long = length-take-le l owners (omega (arith, long_owners, fits))
-
-    scores_long : length (take m.rounds.len scores) ≡ m.rounds.len
-    scores_long = length-take-le l scores (omega (arith, long_scores, fits))
-
-    seated : Seated (take m.members.len numbers) (limits_of m) m.members.len s
+    seated : Seated numbers (limits_of m) m.members.len s
     seated =
-        subst (λ (i : ℕ). Seated (take n numbers) (limits_of m) i s) numbers_long
-        (subst (λ (o : ListOrderedMultimap). Seated (take n numbers) (limits_of o) (length (take n numbers)) s) e t)
+        subst (λ (i : ℕ). Seated numbers (limits_of m) i s) members_held
+        (subst (λ (o : ListOrderedMultimap). Seated numbers (limits_of o) (length numbers) s) e
+        (t (none_seated m g numbers e) (rw members_held (numbers_apart m g numbers ranks a))))
 
-    pub fill_ready : Fillable (take m.rounds.len owners) (length (take m.rounds.len owners)) s × (length (take m.rounds.len scores) ≡ length (take m.rounds.len owners))
-    fill_ready = (
-      rw owners_long (fillable m g (take n numbers) ranks front_members (take l owners) (take l scores) front_rounds s seated),
-      scores_long ∙ sym owners_long,
-    )
-
-    pub packs : {r : ListOrderedMultimap} → Filled s (take m.rounds.len owners) (take m.rounds.len scores) (length (take m.rounds.len owners)) r
+    pub packs : {r : ListOrderedMultimap} → (Fillable owners (length owners) s → length scores ≡ length owners → Filled s owners scores (length owners) r)
         → Repacked m (retaken r m.taken)
     packs {r} f =
-        repacked m g (take n numbers) ranks front_members (take l owners) (take l scores) front_rounds s seated r
-        (subst (λ (i : ℕ). Filled s (take l owners) (take l scores) i r) owners_long f)
+        repacked m g numbers ranks a owners scores b s seated r
+        (subst (λ (i : ℕ). Filled s owners scores i r) rounds_held
+        (f (rw rounds_held (fillable m g numbers ranks a owners scores b s seated)) (scores_long ∙ sym owners_long)))

@@ -6,9 +6,8 @@
 ghost use Rattle.std.specs.Prelude.{[]};
 ghost use Rattle.steps.specs.State.{limit};
 ghost use Rattle.steps.specs.Call as C;
-ghost use Rattle.steps.specs.Told.{Told};
 ghost use Rattle.multimap.specs.Making.{Made};
-ghost use Rattle.multimap.specs.WellLinked.{CallsTold, WellLinked, linked};
+ghost use Rattle.multimap.specs.WellLinked.{CallsTold, WellLinked};
 ghost use Rattle.turn.specs.Turned.{Turned};
 ghost use Rattle.replay.specs.Played.{Played};
 ghost use Rattle.image.specs.Answers.{Writes, Restores};
@@ -51,8 +50,7 @@ pub extern "C" fn om_pack_to(
     values_minimum: u64,
     answer: &mut [u64; 4],
 )
-    requires { WellLinked map.old }
-    ensures { Told linked (C.pack_to keys_minimum values_minimum) map.old map.new [] [] answer.new }
+    ensures { CallsTold (C.pack_to keys_minimum values_minimum) map.old map.new [] [] answer.new }
 {
     answers::tell(answer, packing::pack_to(map, keys_minimum, values_minimum));
 }
@@ -304,7 +302,6 @@ pub extern "C" fn om_call(
     marks: &[u8],
     answer: &mut [u64; 4],
 )
-    requires { WellLinked map.old }
     ensures { Turned op poster k v map.old map.new out.old out2.old marks.now out.new out2.new answer.new }
 {
     answers::tell(answer, turn::call(map, op, poster, k, v, out, out2, marks));
@@ -323,7 +320,6 @@ pub extern "C" fn om_turn(
     marks: &[u8],
     answer: &mut [u64; 4],
 ) -> ListOrderedMultimap
-    requires { WellLinked m }
     ensures { Turned op poster k v m result out.old out2.old marks.now out.new out2.new answer.new }
 {
     let mut map = m;

@@ -1,6 +1,6 @@
 -- What one turn of a run does to its place: it stops there, or is past a call. Assumes nothing.
-use mathlib.Core.Path.{◌≡◌, refl, ap, sym, ◌∙◌, subst}
-use mathlib.Core.Bool.{Bool, true, false}
+use mathlib.Core.Path.{◌≡◌, refl, ap, sym, ◌∙◌}
+use mathlib.Core.Bool.{true, false}
 use mathlib.Core.List.{List, [], ◌∷◌}
 use Rattle.std.specs.Prelude.{Some, None}
 use Prim.Native.Nat.{ℕ, ◌+◌, ◌*◌, ◌-◌, ◌≤◌, ◌<◌}
@@ -12,8 +12,7 @@ use borrow.Rule.Slice.PartMut.{put_mid}
 use Rattle.multimap.specs.WellLinked.{WellLinked, linked}
 use Rattle.multimap.specs.declared.ListOrderedMultimap.{ListOrderedMultimap}
 use Rattle.steps.specs.Told.{Told}
-use Rattle.steps.specs.Call.{call_of, lends, lends_two}
-use Rattle.turn.specs.Turned.{Turned, had}
+use Rattle.steps.specs.Call.{call_of}
 use Rattle.replay.specs.Place.{head_of, fits_at, Ready, Past, Within, rest, Same, At, AllRan, Onward, Ended}
 use Rattle.replay.specs.declared.Head.{Head}
 use Rattle.replay.specs.declared.Place.{Place}
@@ -161,20 +160,3 @@ reach {p} {h} {q} {t} w f past =
       mark = omega (arith, w, fit, past);
       answer = omega (arith, w, fit, past);
     }
-
--- slices that the call does not have are empty, and stay so
-pub turned_told : {op poster k v : ℕ} {m m' : ListOrderedMultimap} {out out2 marks out' out2' told ans : List ℕ} → Ready m op out out2
-    → Turned op poster k v m m' out out2 marks out' out2' told → ans ≡ told → Told linked (call_of op poster k v out out2 marks) m m' out' out2' ans
-turned_told {op} {poster} {k} {v} {m} {m'} {out} {out2} {marks} {out'} {out2'} {told} {ans} r t stored =
-    rw stored
-    (subst (λ (x : List ℕ). Told linked (call_of op poster k v out out2 marks) m m' x out2' told) (one (lends op) out' (λ e. ap length (t.kept e) ∙ r.no_slice e))
-    (subst (λ (x : List ℕ). Told linked (call_of op poster k v out out2 marks) m m' (had (lends op) out') x told)
-    (one (lends_two op) out2' (λ e. ap length (t.kept2 e) ∙ r.no_second e)) t.told))
-  where
-    none : (l : List ℕ) → length l ≡ 0 → [] ≡ l
-    none [] e = refl
-    none (x ∷ l) e = absurd (omega arith)
-
-    one : (b : Bool) (l : List ℕ) → (b ≡ false → length l ≡ 0) → had b l ≡ l
-    one true l h = refl
-    one false l h = none l (h refl)

@@ -9,21 +9,12 @@ use lib.ListN.{get_or-eq_default}
 use lib.Dec.{eqb}
 use borrow.Author.Tests.{ne_eqb}
 use Rattle.steps.specs.Call.{Answer, call_of, lends, values_len}
-use Rattle.steps.specs.Coded.{coded}
 use Rattle.steps.specs.Step.{say}
-use Rattle.steps.specs.Trace.{Does}
-use Rattle.steps.proofs.Doing as D
 use Rattle.answers.proofs.Reading.{NoneFrom, at_least}
 use Rattle.links.proofs.Routes.{same_or_not}
 use Rattle.multimap.specs.declared.ListOrderedMultimap.{ListOrderedMultimap}
-use Rattle.multimap.specs.WellLinked.{linked}
-use Rattle.turn.specs.Turned.{Called, Turned}
-
-module _ {op poster k v : ℕ} {m m' : ListOrderedMultimap} {out out2 marks : List ℕ} {a : Answer} where
-  -- its answer told by numbers
-  pub turned : {out' out2' ans : List ℕ} → Called op poster k v m m' out out2 marks out' out2' a → ans ≡ coded a
-      → Turned op poster k v m m' out out2 marks out' out2' ans
-  turned c e = record { told = D.told linked _ _ c.does e; kept = c.kept; kept2 = c.kept2 }
+use Rattle.multimap.specs.WellLinked.{Calls}
+use Rattle.turn.specs.Turned.{Called}
 
 -- from 21 on, but for 22 and 23, the call is `values_len`
 module _ (op : ℕ) (h : 21 ≤ op) (not_22 : op ≡ 22 → ⊥) (not_23 : op ≡ 23 → ⊥) where
@@ -42,13 +33,13 @@ module _ (op : ℕ) (h : 21 ≤ op) (not_22 : op ≡ 22 → ⊥) (not_23 : op �
       past : op ≢ 21 → 24 ≤ op
       past e = omega arith
 
-  pub is_values_len : {poster k v : ℕ} {m m' : ListOrderedMultimap} {out out2 marks : List ℕ} {a : Answer} → Does linked values_len m (say a) m'
+  pub is_values_len : {poster k v : ℕ} {m m' : ListOrderedMultimap} {out out2 marks : List ℕ} {a : Answer} → Calls values_len m (say a) m'
       → Called op poster k v m m' out out2 marks out out2 a
   is_values_len {poster} {k} {v} {out = out} {out2} {marks} d =
       record { does = rw (no_lends, other 22 not_22, last_call poster k v out out2 marks) d; kept = λ e. refl; kept2 = λ e. refl }
 
 -- what the last arm of the match is told of a number
 pub of_no_other : (op : ℕ) → (NoneFrom 0 op 21 × (op ≡ 22 → ⊥)) × (op ≡ 23 → ⊥)
-    → {poster k v : ℕ} {m m' : ListOrderedMultimap} {out out2 marks : List ℕ} {a : Answer} → Does linked values_len m (say a) m'
+    → {poster k v : ℕ} {m m' : ListOrderedMultimap} {out out2 marks : List ℕ} {a : Answer} → Calls values_len m (say a) m'
     → Called op poster k v m m' out out2 marks out out2 a
 of_no_other op h d = is_values_len op (at_least 0 op 21 zero-le h.0.0) h.0.1 h.1 d

@@ -3,7 +3,6 @@
 #![tactic(auto)]
 
 ghost use Rattle.answers.specs.Answers.{answer_of, answered};
-ghost use Rattle.multimap.specs.WellLinked.{WellLinked};
 ghost use Rattle.turn.specs.Turned.{Called};
 
 use answers::{Answer, IntoAnswer, Refusal};
@@ -21,7 +20,6 @@ pub fn call(
     out2: &mut [u64],
     marks: &[u8],
 ) -> Result<Answer, Refusal>
-    requires { WellLinked map.old }
     ensures { Called op poster k v map.old map.new out.old out2.old marks.now out.new out2.new (answered answer_of result) }
 {
     let answer = match op {

@@ -1,23 +1,15 @@
 -- `packing::pack` meets its contract, by the laws of proofs/Packs.antt. Assumes nothing.
-use borrow.Author.Rules.{rules}
-use Rattle.packing.proofs.Packs.{members_distinct, rounds_distinct, seat_ready, fill_ready, packs}
+use mathlib.Core.Path.{◌∙◌}
+use Rattle.packing.proofs.Packs.{members_distinct, numbers_long, rounds_long, packs}
 use Rattle.packing.proofs.pack.Goals as goal
-
-pub copy_members-requires : goal.copy_members-requires
-copy_members-requires c = members_distinct c.args.map.now c.requires
-
-pub copy_rounds-requires : goal.copy_rounds-requires
-copy_rounds-requires c = rounds_distinct c.args.map.now c.requires
-
-pub seat-requires : goal.seat-requires
-seat-requires c = seat_ready c.args.map.now c.requires (search rules) c.copy_members.ensures c.vacate.ensures
-
-pub fill-requires : goal.fill-requires
-fill-requires c =
-    fill_ready c.args.map.now c.requires (search rules) c.copy_members.ensures c.copy_rounds.ensures.owners_long (search rules) c.copy_rounds.ensures.copied
-    c.vacate.ensures c.seat.ensures
 
 pub returns : goal.returns
 returns c =
-    packs c.args.map.now c.requires (search rules) c.copy_members.ensures c.copy_rounds.ensures.owners_long (search rules) c.copy_rounds.ensures.copied
+    λ wl.
+    let m = c.args.map.now in
+    let n = numbers_long m wl 0 c.min-keys_held.ensures in
+    let o = rounds_long m wl c.new-owners.result c.min-values_held.ensures in
+    let s = rounds_long m wl 0 c.min-values_held.ensures in
+    packs m wl (c.copy_members.auto.numbers ∙ n) (c.copy_members.ensures (members_distinct m wl) n)
+    (c.copy_rounds.auto.owners ∙ o) (c.copy_rounds.auto.scores ∙ s) (c.copy_rounds.ensures o s)
     c.vacate.ensures c.seat.ensures c.fill.ensures

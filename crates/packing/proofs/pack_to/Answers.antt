@@ -5,15 +5,17 @@ use Rattle.packing.proofs.pack_to.Goals as goal
 use Rattle.packing.proofs.pack_to.Goals.{then-map-keys_minimum-via-then-map-keys_minimum, then-map-keys_minimum-via-else-map-keys_minimum+then-map-values_minimum}
 
 pub returns-then-keys_minimum-map : goal.returns-then-keys_minimum-map
-returns-then-keys_minimum-map c = few_members c.args.keys_minimum c.args.values_minimum c.args.map.now c.requires c.if-keys_minimum-map.true
+returns-then-keys_minimum-map c = λ wl. few_members c.args.keys_minimum c.args.values_minimum c.args.map.now wl c.if-keys_minimum-map.true
 
 pub returns-then-values_minimum-map : goal.returns-then-values_minimum-map
 returns-then-values_minimum-map c =
-    few_rounds c.args.keys_minimum c.args.values_minimum c.args.map.now c.requires c.if-keys_minimum-map.false c.if-values_minimum-map.true
+    λ wl.
+    few_rounds c.args.keys_minimum c.args.values_minimum c.args.map.now wl c.if-keys_minimum-map.false c.if-values_minimum-map.true
 
 pub returns-then-map-keys_minimum : goal.returns-then-map-keys_minimum
 returns-then-map-keys_minimum c =
-    above c.args.keys_minimum c.args.values_minimum c.args.map.now c.requires c.if-keys_minimum-map.false c.if-values_minimum-map.false
+    λ wl.
+    above c.args.keys_minimum c.args.values_minimum c.args.map.now wl c.if-keys_minimum-map.false c.if-values_minimum-map.false
     (elim c.then-map-keys_minimum.branch [
       | then-map-keys_minimum-via-then-map-keys_minimum w ↦ inl w.if-map-keys_minimum.true
       | then-map-keys_minimum-via-else-map-keys_minimum+then-map-values_minimum w ↦ inr w.if-map-values_minimum.true
@@ -21,5 +23,6 @@ returns-then-map-keys_minimum c =
 
 pub returns : goal.returns
 returns c =
-    packed c.args.keys_minimum c.args.values_minimum c.args.map.now c.requires c.if-keys_minimum-map.false c.if-values_minimum-map.false
-    c.if-map-keys_minimum.false c.if-map-values_minimum.false c.pack.ensures
+    λ wl.
+    packed c.args.keys_minimum c.args.values_minimum c.args.map.now wl c.if-keys_minimum-map.false c.if-values_minimum-map.false
+    c.if-map-keys_minimum.false c.if-map-values_minimum.false (c.pack.ensures wl)

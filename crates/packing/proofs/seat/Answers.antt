@@ -5,10 +5,12 @@ use Rattle.packing.proofs.seat.Goals as goal
 
 pub returns-in_default : goal.returns-in_default
 returns-in_default c =
-    absurd (seats_none c.args.numbers.now c.loop-k.k-index c.loop-k.map c.loop-k.invariant c.requires.1 c.loop-k-test.true
+    λ s a.
+    absurd (seats_none c.args.numbers.now c.loop-k.k-index c.loop-k.map (c.loop-k.invariant s a) a c.loop-k-test.true
     refl _ _ _ (sym c.find.ensures ∙ c.in_default.is))
 
 pub loop-k-preserved : goal.loop-k-preserved
 loop-k-preserved c =
-    seats_more c.args.numbers.now c.loop-k.k-index c.loop-k.map c.loop-k.invariant c.requires.1 c.loop-k-test.true
+    λ s a.
+    seats_more c.args.numbers.now c.loop-k.k-index c.loop-k.map (c.loop-k.invariant s a) a c.loop-k-test.true
     refl _ _ (sym c.find.ensures ∙ c.in-Absent.is) c.join.ensures.1

@@ -5,4 +5,4 @@ use Rattle.turn.proofs.call.Goals as goal
 
 pub returns-in_default : goal.returns-in_default
 returns-in_default c =
-    of_no_other c.args.op (search rules) (rw c.into_answer-answer-in_default.ensures (c.values_len.ensures c.requires))
+    of_no_other c.args.op (search rules) (rw c.into_answer-answer-in_default.ensures c.values_len.ensures)
