@@ -240,7 +240,7 @@ class Sources:
 
     # The call that a promise names, which is one of the map before and after, with the answer's four numbers.
     def promised(self, clauses):
-        calls = re.findall(r'ensures \{ (?:CallsTold|Told linked) (?:\(C\.(\w+)[^)]*\)|C\.(\w+)) ', clauses)
+        calls = re.findall(r'ensures \{ CallsTold (?:\(C\.(\w+)[^)]*\)|C\.(\w+)) ', clauses)
         return ''.join(calls[0]) if len(calls) == 1 else ''
 
     def given(self, words):
