@@ -2,139 +2,64 @@
 use Prim.Native.Nat.{ℕ, ◌+◌, ◌≤◌, ◌<◌}
 use mathlib.Core.Path.{◌≡◌, sym, ap, ◌∙◌}
 use mathlib.Core.Logic.{◌≢◌, ⊎_elim}
-use mathlib.Core.List.{List}
+use mathlib.Core.List.{List, map}
 use native.Mathlib.Omega.{arith}
-use native.Mathlib.Numerals.{add-one}
-use lib.ListN.{length, get_or, set, length-set}
+use lib.ListN.{length, get_or, set, length-set, length-map}
 use lib.Seq.{get_or-set_same, get_or-set_other}
+use Rattle.std.proofs.lemmas.List.{append-nil}
+use Rattle.std.proofs.Math.ListN.{drop_of_length-le}
 use Rattle.links.proofs.Routes.{same_or_not}
 use Rattle.links.proofs.Lists.{length_walk}
 use Rattle.multimap.specs.Map.{at}
-use Rattle.multimap.proofs.Copies.{get_d_in, beyond, walk_way}
-use Rattle.packing.specs.Building.{listed, Distinct, Copied, MembersCopied, RoundsCopied}
+use Rattle.multimap.proofs.Copies.{Copied, copied_more, copied_all, get_d_in, beyond, walk_way}
+use Rattle.packing.specs.Building.{listed, Distinct}
 use Rattle.packing.proofs.Lists.{nth_any, nth_apart}
 
--- one more value is stored
-copied_more : (f : ℕ → ℕ) (xs : List ℕ) (i : ℕ) (out : List ℕ) → Copied f xs i out → i < length out
-    → {v : ℕ} → v ≡ f (get_or xs i 0) → Copied f xs (i + 1) (set out i v)
-copied_more f xs i out c room {v} e j h =
-    ⊎_elim (λ (z : j ≡ i). ap (at (set out i v)) z ∙ get_or-set_same out i v 0 room ∙ e ∙ sym (ap (λ (y : ℕ). f (get_or xs y 0)) z))
-    (λ (z : j ≢ i). get_or-set_other out i j v 0 z ∙ c j (omega arith)) (same_or_not j i)
+pub long : (next : List ℕ) (root len : ℕ) → length (listed next root len) ≡ len
+long next root len = length_walk (at next) (at next root) len
 
--- ---- the walk
+-- after i turns f of so many places stands in `out`, which was out₀, and the walk is at x; said of a slice as long as the list
+pub record Listed (f : ℕ → ℕ) (next : List ℕ) (root len : ℕ) (out₀ : List ℕ) (i x : ℕ) (out : List ℕ) : Type 0 where
+  pub copied : length out₀ ≡ len → Copied f (listed next root len) (beyond (at next) (at next root) len) out₀ i x out
 
--- after i steps it is at x
-pub record Walked (next : List ℕ) (root : ℕ) (len : ℕ) (i x : ℕ) : Type 0 where
-  pub some : i ≤ len
-  pub here : x ≡ get_or (listed next root len) i (beyond (at next) (at next root) len)
-
-module _ (next : List ℕ) (root len : ℕ) where
+module _ {f : ℕ → ℕ} {next : List ℕ} {root len : ℕ} {out₀ : List ℕ} {i x : ℕ} {out : List ℕ} (t : Listed f next root len out₀ i x out) where
   abbrev xs : List ℕ
   xs = listed next root len
 
-  abbrev end : ℕ
-  end = beyond (at next) (at next root) len
+  pub one_listed : i < len → {v y : ℕ} {out' : List ℕ} → v ≡ f x → out' ≡ set out i v → y ≡ at next x → Listed f next root len out₀ (i + 1) y out'
+  one_listed more ev eo ey =
+      record {
+        copied =
+            λ fits.
+            rw (eo, ev, ey)
+            (copied_more (t.copied fits) (omega (arith, long next root len)) (walk_way (at next) (at next root) len) (omega (arith, long next root len)));
+      }
 
-  pub long : length (listed next root len) ≡ len
-  long = length_walk (at next) (at next root) len
+  pub all_listed : len ≤ i → length out₀ ≡ len → out ≡ map f (listed next root len)
+  all_listed done fits =
+      copied_all (t.copied fits) (omega (arith, long next root len))
+      ∙ rw (drop_of_length-le out₀ {i = length (map f xs)} (omega (arith, long next root len, length-map xs f)), append-nil (map f xs))
 
-  module _ (i x : ℕ) (w : Walked next root len i x) (more : i < len) where
-    pub place_is : x ≡ get_or (listed next root len) i 0
-    place_is = w.here ∙ nth_any xs i end 0 (rw long more)
+  pub place_is : length out₀ ≡ len → i < len → x ≡ get_or (listed next root len) i 0
+  place_is fits more = (t.copied fits).here ∙ nth_any xs i (beyond (at next) (at next root) len) 0 (rw (long next root len) more)
 
-    pub place_fits : Distinct (listed next root len) root → x < root
-    place_fits d = d.inside x (rw place_is (get_d_in xs i 0 (rw long more)))
+-- at each of the first i member places how many come before it
+pub record Ranked (ks : List ℕ) (i : ℕ) (ranks : List ℕ) : Type 0 where
+  pub long : length ranks ≡ 256
+  pub rank : (j : ℕ) → j < i → at ranks (get_or ks j 0) ≡ j
 
-    pub walk_more : {y : ℕ} → y ≡ at next x → Walked next root len (i + 1) y
-    walk_more e =
-        record {
-          some = omega arith;
-          here = e ∙ ap (at next) w.here ∙ rw (add-one i) ((walk_way (at next) (at next root) len).on i (rw long more));
-        }
+pub one_ranked : {ks : List ℕ} {i x : ℕ} {ranks ranks' : List ℕ} → Ranked ks i ranks → Distinct ks 256 → i < length ks → x ≡ get_or ks i 0
+    → ranks' ≡ set ranks x i → Ranked ks (i + 1) ranks'
+one_ranked {ks} {i} {x} {ranks} t d more is e = rw e (record { long = simp length-set t.long; rank = one })
+  where
+    fits : x < 256
+    fits = d.inside x (rw is (get_d_in ks i 0 more))
 
--- ---- members
-
-pub record MembersTurned (keys next : List ℕ) (len i x : ℕ) (numbers ranks : List ℕ) : Type 0 where
-  pub walked : Walked next 256 len i x
-  pub copied : MembersCopied keys (listed next 256 len) i numbers ranks
-  pub numbers_long : length numbers ≡ len
-  pub ranks_long : length ranks ≡ 256
-
-module _ (keys next : List ℕ) (len : ℕ) (numbers ranks : List ℕ) where
-  module _ (i x : ℕ) (t : MembersTurned keys next len i x numbers ranks) where
-    abbrev ks : List ℕ
-    ks = listed next 256 len
-
-    module _ (d : Distinct ks 256) (more : i < len) where
-      is : x ≡ get_or ks i 0
-      is = place_is next 256 len i x t.walked more
-
-      rank_more : (j : ℕ) → j < i + 1 → at (set ranks x i) (get_or ks j 0) ≡ j
-      rank_more j h =
-          ⊎_elim
-          (λ (z : j ≡ i).
-          ap (λ (y : ℕ). at (set ranks x i) (get_or ks y 0)) z ∙ ap (at (set ranks x i)) (sym is)
-          ∙ get_or-set_same ranks x i 0 (rw t.ranks_long (place_fits next 256 len i x t.walked more d)) ∙ sym z)
-          (λ (z : j ≢ i).
-          get_or-set_other ranks x (get_or ks j 0) i 0 (λ e. nth_apart ks j i 0 d.once (omega arith) (rw (long next 256 len) more) (e ∙ is))
-          ∙ t.copied.rank j (omega arith))
-          (same_or_not j i)
-
-      pub members_more : {k y : ℕ} {numbers' ranks' : List ℕ} → k ≡ at keys x → numbers' ≡ set numbers i k → ranks' ≡ set ranks x i
-          → y ≡ at next x → MembersTurned keys next len (i + 1) y numbers' ranks'
-      members_more ek en er ey =
-          record {
-            walked = walk_more next 256 len i x t.walked more ey;
-            copied =
-                record {
-                  number =
-                      rw en
-                      (copied_more (at keys) ks i numbers t.copied.number (rw t.numbers_long more)
-                      (ek ∙ ap (at keys) is));
-                  rank = rw er rank_more;
-                };
-            numbers_long = rw en (simp length-set t.numbers_long);
-            ranks_long = rw er (simp length-set t.ranks_long);
-          }
-
-    pub members_all : len ≤ i → MembersCopied keys (listed next 256 len) (length (listed next 256 len)) numbers ranks
-    members_all e = let is : length ks ≡ i = omega (arith, long next 256 len, t.walked.some) in rw is t.copied
-
--- ---- rounds
-
-pub record RoundsTurned (values key_index next : List ℕ) (len : ℕ) (ranks : List ℕ) (i x : ℕ) (owners scores : List ℕ) : Type 0 where
-  pub walked : Walked next 1024 len i x
-  pub copied : RoundsCopied values key_index ranks (listed next 1024 len) i owners scores
-  pub owners_long : length owners ≡ len
-  pub scores_long : length scores ≡ len
-
-module _ (values key_index next : List ℕ) (len : ℕ) (ranks owners scores : List ℕ) where
-  module _ (i x : ℕ) (t : RoundsTurned values key_index next len ranks i x owners scores) where
-    abbrev vs : List ℕ
-    vs = listed next 1024 len
-
-    module _ (more : i < len) where
-      round_is : x ≡ get_or vs i 0
-      round_is = place_is next 1024 len i x t.walked more
-
-      pub rounds_more : {k r v y : ℕ} {owners' scores' : List ℕ} → k ≡ at key_index x → r ≡ at ranks k → v ≡ at values x
-          → owners' ≡ set owners i r → scores' ≡ set scores i v → y ≡ at next x
-          → RoundsTurned values key_index next len ranks (i + 1) y owners' scores'
-      rounds_more ek er ev eo es ey =
-          record {
-            walked = walk_more next 1024 len i x t.walked more ey;
-            copied =
-                record {
-                  owner =
-                      rw eo (copied_more (λ q. at ranks (at key_index q)) vs i owners t.copied.owner (rw t.owners_long more)
-                      (er ∙ ap (at ranks) ek ∙ ap (λ (q : ℕ). at ranks (at key_index q)) round_is));
-                  score =
-                      rw es (copied_more (at values) vs i scores t.copied.score (rw t.scores_long more) (ev ∙ ap (at values) round_is));
-                };
-            owners_long = rw eo (simp length-set t.owners_long);
-            scores_long = rw es (simp length-set t.scores_long);
-          }
-
-    pub rounds_all : len ≤ i
-        → RoundsCopied values key_index ranks (listed next 1024 len) (length (listed next 1024 len)) owners scores
-    rounds_all e = let is : length vs ≡ i = omega (arith, long next 1024 len, t.walked.some) in rw is t.copied
+    one : (j : ℕ) → j < i + 1 → at (set ranks x i) (get_or ks j 0) ≡ j
+    one j h =
+        ⊎_elim
+        (λ (z : j ≡ i).
+        ap (λ (y : ℕ). at (set ranks x i) (get_or ks y 0)) z ∙ ap (at (set ranks x i)) (sym is) ∙ get_or-set_same ranks x i 0 (rw t.long fits) ∙ sym z)
+        (λ (z : j ≢ i).
+        get_or-set_other ranks x (get_or ks j 0) i 0 (λ k. nth_apart ks j i 0 d.once (omega arith) more (k ∙ is)) ∙ t.rank j (omega arith))
+        (same_or_not j i)

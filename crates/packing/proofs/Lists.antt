@@ -19,6 +19,9 @@ nth_any [] i d e h = absurd (omega arith)
 nth_any (x ∷ xs) zero d e h = refl
 nth_any (x ∷ xs) (suc i) d e h = nth_any xs i d e (omega arith)
 
+pub nth_map : (f : ℕ → ℕ) (xs : List ℕ) (i : ℕ) {out : List ℕ} → out ≡ map f xs → i < length xs → get_or out i 0 ≡ f (get_or xs i 0)
+nth_map f xs i e h = rw e (nth_any (map f xs) i 0 (f 0) (rw (length-map xs f) h) ∙ get_or-map f xs i 0)
+
 pub nth_apart : (xs : List ℕ) (i j d : ℕ) → Once xs → i < j → j < length xs → get_or xs i d ≢ get_or xs j d
 nth_apart [] i j d o h k e = omega arith
 nth_apart (x ∷ xs) i zero d o h k e = omega arith

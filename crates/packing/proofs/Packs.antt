@@ -8,7 +8,7 @@ use borrow.Author.Tests.{lt-ltb, le-ltb}
 use mathlib.Core.List.{List, map}
 use native.Mathlib.Omega.{arith}
 use lib.Dec.{ltb}
-use lib.ListN.{length, get_or, take, replicate, length-replicate}
+use lib.ListN.{length, get_or, take, replicate, length-replicate, length-map}
 use lib.Seq.{length-take-le}
 use Rattle.steps.specs.State.{State}
 use Rattle.steps.specs.Call.{pack_to, refused, done}
@@ -28,7 +28,7 @@ use Rattle.multimap.proofs.Sounds.{linked_sound, sound_linked}
 use Rattle.packing.specs.Building.{up_to, Distinct, MembersCopied, RoundsCopied, Apart, Seated, Fillable, Filled, Repacked}
 use Rattle.packing.specs.Cleared.{cleared}
 use Rattle.packing.proofs.Clears.{cleared_map}
-use Rattle.packing.proofs.Lists.{stands, nth_apart, length_up, nth_up, below_in, map_up}
+use Rattle.packing.proofs.Lists.{stands, nth_map, nth_apart, length_up, nth_up, below_in, map_up}
 use Rattle.packing.proofs.Seats.{number}
 
 -- ---- when it is refused
@@ -136,7 +136,10 @@ module _ (m : ListOrderedMultimap) (g : WellLinked m) where
         limits = refl;
       })
 
-  module _ (numbers ranks : List ℕ) (a : MembersCopied m.keys (order (members_of m)) (length (order (members_of m))) numbers ranks) where
+  module _ (numbers ranks : List ℕ) (a : MembersCopied m.keys (order (members_of m)) numbers ranks) where
+    number_is : (i : ℕ) → i < length ks → at numbers i ≡ at m.keys (get_or ks i 0)
+    number_is i h = nth_map (at m.keys) ks i a.number h
+
     pub numbers_apart : Apart numbers m.members.len
     numbers_apart =
         record {
@@ -147,7 +150,7 @@ module _ (m : ListOrderedMultimap) (g : WellLinked m) where
               let li : i < length ks = omega arith in
               let one : get_or ks i 0 ≡ get_or ks j 0 =
               g.index.distinct (get_or ks i 0) (get_or ks j 0) (tally_mem _ ks (get_d_in ks i 0 li)) (tally_mem _ ks (get_d_in ks j 0 lj))
-              (sym (a.number i li) ∙ e ∙ a.number j lj) in
+              (sym (number_is i li) ∙ e ∙ number_is j lj) in
               nth_apart ks i j 0 members_distinct.once h lj one;
         }
 
@@ -159,17 +162,20 @@ module _ (m : ListOrderedMultimap) (g : WellLinked m) where
         (rw e w.inside, ap (λ (j : ℕ). get_or ks j 0) e ∙ w.is)
 
     module _ (owners scores : List ℕ)
-        (b : RoundsCopied m.values m.key_index ranks (order (rounds_of m)) (length (order (rounds_of m))) owners scores)
+        (b : RoundsCopied m.values m.key_index ranks (order (rounds_of m)) owners scores)
         (s : ListOrderedMultimap) (t : Seated numbers (limits_of m) m.members.len s) where
       -- the member place of the j-th round
       abbrev old : ℕ → ℕ
       old j = at m.key_index (get_or vs j 0)
 
+      owner_is : (j : ℕ) → j < length vs → at owners j ≡ at ranks (old j)
+      owner_is j h = nth_map (λ q. at ranks (at m.key_index q)) vs j b.owner h
+
       known : (j : ℕ) → j < length vs → 0 < tally (old j) ks
       known j h = g.chained.keys (get_or vs j 0) (get_d_in vs j 0 h)
 
       low : (j : ℕ) → j < length vs → at owners j < m.members.len
-      low j h = rw (b.owner j h) (omega (arith, (rank_is (old j) (known j h)).0, length_order (members_of m)))
+      low j h = rw (owner_is j h) (omega (arith, (rank_is (old j) (known j h)).0, length_order (members_of m)))
 
       pub fillable : Fillable owners m.rounds.len s
       fillable =
@@ -187,14 +193,14 @@ module _ (m : ListOrderedMultimap) (g : WellLinked m) where
             ∙ ap (λ (l : Places). map (at s.keys) (order l)) f.members
             ∙ t.members
             ∙ map_up (at numbers) (at m.keys) m.members.len ks (length_order (members_of m))
-            (λ i h. a.number i (rw (length_order (members_of m)) h))
+            (λ i h. number_is i (rw (length_order (members_of m)) h))
 
         key_is : (j : ℕ) → j < length vs → at s.keys (at owners j) ≡ at m.keys (old j)
         key_is j h =
             let i : at owners j < length ks = rw (length_order (members_of m)) (low j h) in
             number numbers m.members.len s t (at owners j) (low j h)
-            ∙ a.number (at owners j) i
-            ∙ ap (λ (x : ℕ). at m.keys (get_or ks x 0)) (b.owner j h)
+            ∙ number_is (at owners j) i
+            ∙ ap (λ (x : ℕ). at m.keys (get_or ks x 0)) (owner_is j h)
             ∙ ap (at m.keys) (rank_is (old j) (known j h)).1
 
         same_pairs : pairs r ≡ pairs m
@@ -202,7 +208,7 @@ module _ (m : ListOrderedMultimap) (g : WellLinked m) where
             f.pairs
             ∙ map_up (λ j. record { key = at s.keys (at owners j); value = at scores j }) (pair_at m) m.rounds.len vs
             (length_order (rounds_of m))
-            (λ j h. let i : j < length vs = rw (length_order (rounds_of m)) h in rw (key_is j i, b.score j i))
+            (λ j h. let i : j < length vs = rw (length_order (rounds_of m)) h in rw (key_is j i, nth_map (at m.values) vs j b.score i))
 
         abbrev p : ListOrderedMultimap
         p = retaken r m.taken
@@ -231,27 +237,24 @@ front_long : (x : ℕ) (k n room : ℕ) → k ≡ min n room → n ≤ room → 
 front_long x k n room e few = length-take-le k (replicate room x) (omega (arith, length-replicate room x)) ∙ omega arith
 
 module _ (m : ListOrderedMultimap) (g : WellLinked m) where
-  pub numbers_long : (x : ℕ) {k : ℕ} → k ≡ min m.members.len 256 → length (take k (replicate 256 x)) ≡ length (order (members_of m))
-  numbers_long x {k} e =
-      let n = length_order (members_of m) in
-      front_long x k (length (order (members_of m))) 256 (rw n e) (members_distinct m g).few
+  pub numbers_long : (x : ℕ) {k : ℕ} → k ≡ min m.members.len 256 → length (take k (replicate 256 x)) ≡ m.members.len
+  numbers_long x {k} e = front_long x k m.members.len 256 e (omega (arith, (members_distinct m g).few, length_order (members_of m)))
 
-  pub rounds_long : (x : ℕ) {k : ℕ} → k ≡ min m.rounds.len 1024 → length (take k (replicate 1024 x)) ≡ length (order (rounds_of m))
-  rounds_long x {k} e =
-      let n = length_order (rounds_of m) in
-      front_long x k (length (order (rounds_of m))) 1024 (rw n e) (rounds_distinct m g).few
+  pub rounds_long : (x : ℕ) {k : ℕ} → k ≡ min m.rounds.len 1024 → length (take k (replicate 1024 x)) ≡ m.rounds.len
+  rounds_long x {k} e = front_long x k m.rounds.len 1024 e (omega (arith, (rounds_distinct m g).few, length_order (rounds_of m)))
 
-  module _ {numbers ranks : List ℕ} (long : length numbers ≡ length (order (members_of m)))
-      (a : MembersCopied m.keys (order (members_of m)) (length (order (members_of m))) numbers ranks)
-      {owners scores : List ℕ} (owners_long : length owners ≡ length (order (rounds_of m))) (scores_long : length scores ≡ length (order (rounds_of m)))
-      (b : RoundsCopied m.values m.key_index ranks (order (rounds_of m)) (length (order (rounds_of m))) owners scores)
+  module _ {numbers ranks : List ℕ} (a : MembersCopied m.keys (order (members_of m)) numbers ranks)
+      {owners scores : List ℕ} (b : RoundsCopied m.values m.key_index ranks (order (rounds_of m)) owners scores)
       {o s : ListOrderedMultimap} (e : o ≡ cleared m)
       (t : Seated numbers (limits_of o) 0 o → Apart numbers (length numbers) → Seated numbers (limits_of o) (length numbers) s) where
     members_held : length numbers ≡ m.members.len
-    members_held = long ∙ length_order (members_of m)
+    members_held = ap length a.number ∙ simp length-map (length_order (members_of m))
 
     rounds_held : length owners ≡ m.rounds.len
-    rounds_held = owners_long ∙ length_order (rounds_of m)
+    rounds_held = ap length b.owner ∙ simp length-map (length_order (rounds_of m))
+
+    scores_held : length scores ≡ m.rounds.len
+    scores_held = ap length b.score ∙ simp length-map (length_order (rounds_of m))
 
     seated : Seated numbers (limits_of m) m.members.len s
     seated =
@@ -264,4 +267,4 @@ module _ (m : ListOrderedMultimap) (g : WellLinked m) where
     packs {r} f =
         repacked m g numbers ranks a owners scores b s seated r
         (subst (λ (i : ℕ). Filled s owners scores i r) rounds_held
-        (f (rw rounds_held (fillable m g numbers ranks a owners scores b s seated)) (scores_long ∙ sym owners_long)))
+        (f (rw rounds_held (fillable m g numbers ranks a owners scores b s seated)) (scores_held ∙ sym rounds_held)))

@@ -25,19 +25,15 @@ pub record Distinct (xs : List ℕ) (n : ℕ) : Type 0 where
   pub inside : (q : ℕ) → 0 < tally q xs → q < n
   pub once : (q : ℕ) → tally q xs ≤ 1
 
--- `out` begins with f of the first n of the places xs
-abbrev pub Copied : (ℕ → ℕ) → List ℕ → ℕ → List ℕ → Type 0
-Copied f xs n out = (i : ℕ) → i < n → at out i ≡ f (get_or xs i 0)
+-- the numbers of the member places ks; and at each of these how many come before it
+pub record MembersCopied (keys ks numbers ranks : List ℕ) : Type 0 where
+  pub number : numbers ≡ map (at keys) ks
+  pub rank : (i : ℕ) → i < length ks → at ranks (get_or ks i 0) ≡ i
 
--- of the first n member places ks, the numbers; and at each of them how many come before it
-pub record MembersCopied (keys ks : List ℕ) (n : ℕ) (numbers ranks : List ℕ) : Type 0 where
-  pub number : Copied (at keys) ks n numbers
-  pub rank : (i : ℕ) → i < n → at ranks (get_or ks i 0) ≡ i
-
--- of the first n round places vs, the rounds; and what `ranks` has at the place of each one's member
-pub record RoundsCopied (values key_index ranks vs : List ℕ) (n : ℕ) (owners scores : List ℕ) : Type 0 where
-  pub owner : Copied (λ q. at ranks (at key_index q)) vs n owners
-  pub score : Copied (at values) vs n scores
+-- the rounds of the round places vs; and what `ranks` has at the place of each one's member
+pub record RoundsCopied (values key_index ranks vs owners scores : List ℕ) : Type 0 where
+  pub owner : owners ≡ map (λ q. at ranks (at key_index q)) vs
+  pub score : scores ≡ map (at values) vs
 
 -- ---- taken in again
 

@@ -139,7 +139,7 @@ fn pack(map: &mut ListOrderedMultimap)
 // Walks once for both, as `copy_rounds` does: tried by `copying::copy` for the numbers, with a walk for the ranks, `pack_to` takes 6 to 15 in a
 // hundred longer, and by it for the scores 12 to 19.
 fn copy_members(map: &ListOrderedMultimap, numbers: &mut [u64], ranks: &mut [KeyPlace; 256])
-    ensures { let ks : List ℕ = listed map.now.next_key 256 map.now.members.len in Distinct ks 256 → length numbers.old ≡ length ks → MembersCopied map.now.keys ks (length ks) numbers.new ranks.new }
+    ensures { let ks : List ℕ = listed map.now.next_key 256 map.now.members.len in Distinct ks 256 → length numbers.old ≡ map.now.members.len → MembersCopied map.now.keys ks numbers.new ranks.new }
 {
     let mut x = map.first_member();
     // Goes along the links, and i is the rank that is written.
@@ -157,7 +157,7 @@ fn copy_rounds(
     owners: &mut [KeyPlace],
     scores: &mut [u64],
 )
-    ensures { let vs : List ℕ = listed map.now.next_value 1024 map.now.rounds.len in length owners.old ≡ length vs → length scores.old ≡ length vs → RoundsCopied map.now.values map.now.key_index ranks.now vs (length vs) owners.new scores.new }
+    ensures { let vs : List ℕ = listed map.now.next_value 1024 map.now.rounds.len in length owners.old ≡ map.now.rounds.len → length scores.old ≡ map.now.rounds.len → RoundsCopied map.now.values map.now.key_index ranks.now vs owners.new scores.new }
 {
     let mut x = map.first_round();
     // Goes along the links, and i is where it writes in both arrays.

@@ -1,19 +1,23 @@
 -- `packing::copy_members` meets its contract, by the laws of proofs/Copying.antt. Assumes nothing.
-use mathlib.Core.Path.{◌∙◌}
-use Rattle.packing.proofs.Copying.{long, members_more, members_all}
+use native.Mathlib.Omega.{arith}
+use Rattle.packing.proofs.Copying.{long, one_listed, all_listed, place_is, one_ranked}
 use Rattle.packing.proofs.copy_members.Goals as goal
 
 pub loop-i-preserved : goal.loop-i-preserved
 loop-i-preserved c =
-    λ n d.
-    let m = c.args.map.now in
-    members_more m.keys m.next_key m.members.len c.loop-i.numbers c.loop-i.ranks c.loop-i.i c.loop-i.x
-    (c.loop-i.invariant n d) d c.loop-i-test.true c.member.ensures c.put.ensures
-    (cc) c.after-x.ensures
+    let inv = c.loop-i.invariant in
+    let m = c.args.map.now in (
+      one_listed inv.0 c.loop-i-test.true c.member.ensures c.put.ensures c.after-x.ensures,
+      λ n d.
+          one_ranked (inv.1 n d) d (omega (arith, long m.next_key 256 m.members.len)) (place_is inv.0 n c.loop-i-test.true) (cc),
+    )
 
 pub returns : goal.returns
 returns c =
     λ d n.
+    let inv = c.loop-i.invariant in
     let m = c.args.map.now in
-    members_all m.keys m.next_key m.members.len c.loop-i.numbers c.loop-i.ranks c.loop-i.i c.loop-i.x
-    (c.loop-i.invariant (n ∙ long m.next_key 256 m.members.len) d) c.loop-i-test.false
+    record {
+      number = all_listed inv.0 c.loop-i-test.false n;
+      rank = λ i h. (inv.1 n d).rank i (omega (arith, long m.next_key 256 m.members.len));
+    }
