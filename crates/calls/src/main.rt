@@ -55,9 +55,8 @@ fn answer_all(
     line: &mut Unfinished,
     out: &mut [u8],
 ) -> Result<()>
-    requires linked { WellLinked map.old }
-    requires roomy { Roomy out.old }
-    ensures { WellLinked map.new }
+    requires { Roomy out.old }
+    ensures { WellLinked map.old → WellLinked map.new }
 {
     let mut rest = chunk;
     while !rest.is_empty() {

@@ -1,10 +1,10 @@
 -- What the call of a line did, and how its answer is printed.
-use Rattle.std.specs.Prelude.{ℕ, ◌≡◌, true, List}
+use Rattle.std.specs.Prelude.{ℕ, ◌<◌, ◌≡◌, true, List}
 use Rattle.multimap.specs.Map.{state_of}
 use Rattle.multimap.specs.WellLinked.{WellLinked}
 use Rattle.multimap.specs.declared.ListOrderedMultimap.{ListOrderedMultimap}
 use Rattle.parsing.specs.Line.{Line}
-use Rattle.printing.specs.Said.{Prints}
+use Rattle.printing.specs.Said.{Prints, Roomy, max_printed}
 use Rattle.line_calls.specs.Answer.{answer_of, idle}
 
 -- the text of the line l on the map m, of n bytes, and the map m' after it
@@ -14,6 +14,7 @@ pub record Replied (l : Line) (m : ListOrderedMultimap) (was out : List ℕ) (m'
   pub linked : WellLinked m'
   pub same : idle l (state_of m) ≡ true → m' ≡ m
 
--- the same of a line that only reads
-abbrev pub Shows : Line → ListOrderedMultimap → List ℕ → List ℕ → ℕ → Type 0
-Shows l m was out n = WellLinked m → Replied l m was out m n
+-- so of every well-linked map; of any other no more than that the text and its line end are at most as long as any printed line
+pub record Replies (l : Line) (m : ListOrderedMultimap) (was out : List ℕ) (m' : ListOrderedMultimap) (n : ℕ) : Type 0 where
+  pub short : Roomy was → n < max_printed
+  pub replied : WellLinked m → Replied l m was out m' n

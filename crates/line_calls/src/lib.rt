@@ -4,25 +4,22 @@
 #![tactic(auto, using(crate::proofs::Calls::replied, crate::proofs::Calls::shown), unfolding(crate::specs::Answer::answer_of, crate::specs::Answer::idle))]
 
 ghost use Rattle.std.specs.Prelude.{◌≡◌, map as mapped};
-ghost use Rattle.multimap.specs.WellLinked.{WellLinked};
 ghost use Rattle.parsing.specs.Line as Line;
 ghost use Rattle.line_calls.specs.Answer.{marks_line};
-ghost use Rattle.line_calls.specs.Replied.{Replied, Shows};
+ghost use Rattle.line_calls.specs.Replied.{Replies};
 
 use multimap::ListOrderedMultimap;
 use parsing::MAX_LINE;
 use printing::{print_answer, print_bad, print_members, print_old, print_pairs};
 
 pub fn adds(map: &mut ListOrderedMultimap, k: u64, v: u64, out: &mut [u8]) -> usize
-    requires { WellLinked map.old }
-    ensures { Replied (Line.adds k v) map.old out.old out.new map.new result }
+    ensures { Replies (Line.adds k v) map.old out.old out.new map.new result }
 {
     print_answer(out, adding::append(map, 0, k, v))
 }
 
 pub fn inserts(map: &mut ListOrderedMultimap, k: u64, v: u64, out: &mut [u8]) -> usize
-    requires { WellLinked map.old }
-    ensures { Replied (Line.inserts k v) map.old out.old out.new map.new result }
+    ensures { Replies (Line.inserts k v) map.old out.old out.new map.new result }
 {
     let mut old = [0; 1024];
     let outcome = inserting_all::insert_all(map, 0, k, v, &mut old);
@@ -30,8 +27,7 @@ pub fn inserts(map: &mut ListOrderedMultimap, k: u64, v: u64, out: &mut [u8]) ->
 }
 
 pub fn removes(map: &mut ListOrderedMultimap, k: u64, out: &mut [u8]) -> usize
-    requires { WellLinked map.old }
-    ensures { Replied (Line.removes k) map.old out.old out.new map.new result }
+    ensures { Replies (Line.removes k) map.old out.old out.new map.new result }
 {
     let mut old = [0; 1024];
     let outcome = removing::remove_all(map, k, &mut old);
@@ -39,23 +35,20 @@ pub fn removes(map: &mut ListOrderedMultimap, k: u64, out: &mut [u8]) -> usize
 }
 
 pub fn front(map: &mut ListOrderedMultimap, out: &mut [u8]) -> usize
-    requires { WellLinked map.old }
-    ensures { Replied Line.front map.old out.old out.new map.new result }
+    ensures { Replies Line.front map.old out.old out.new map.new result }
 {
     print_answer(out, Ok(popping::pop_front(map)))
 }
 
 pub fn back(map: &mut ListOrderedMultimap, out: &mut [u8]) -> usize
-    requires { WellLinked map.old }
-    ensures { Replied Line.back map.old out.old out.new map.new result }
+    ensures { Replies Line.back map.old out.old out.new map.new result }
 {
     print_answer(out, Ok(popping_back::pop_back(map)))
 }
 
 // Takes the bytes after the letter and its space for the marks; more than a line has are none.
 pub fn keeps(map: &mut ListOrderedMultimap, bytes: &[u8], out: &mut [u8]) -> usize
-    requires { WellLinked map.old }
-    ensures { Replied (marks_line bytes.now) map.old out.old out.new map.new result }
+    ensures { Replies (marks_line bytes.now) map.old out.old out.new map.new result }
 {
     if MAX_LINE < bytes.len() {
         return print_bad(out);
@@ -68,7 +61,7 @@ pub fn keeps(map: &mut ListOrderedMultimap, bytes: &[u8], out: &mut [u8]) -> usi
 }
 
 pub fn lists(map: &ListOrderedMultimap, out: &mut [u8]) -> usize
-    ensures { Shows Line.lists map.now out.old out.new result }
+    ensures { Replies Line.lists map.now out.old out.new map.now result }
 {
     let mut members = [0; 1024];
     let mut rounds = [0; 1024];
@@ -77,7 +70,7 @@ pub fn lists(map: &ListOrderedMultimap, out: &mut [u8]) -> usize
 }
 
 pub fn members_line(map: &ListOrderedMultimap, out: &mut [u8]) -> usize
-    ensures { Shows Line.members map.now out.old out.new result }
+    ensures { Replies Line.members map.now out.old out.new map.now result }
 {
     let mut members = [0; 1024];
     let outcome = reading::keys(map, &mut members);

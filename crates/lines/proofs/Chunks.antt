@@ -1,5 +1,5 @@
 -- Laws of chunks: one after another, and one up to its first line end. Assumes nothing.
-use Prim.Native.Nat.{ℕ, zero, suc, ◌+◌, ◌-◌, ◌≤◌, ◌<◌}
+use Prim.Native.Nat.{ℕ, suc, ◌+◌, ◌-◌, ◌≤◌, ◌<◌}
 use mathlib.Core.Path.{◌≡◌, refl, sym, ap, ◌∙◌}
 use mathlib.Core.Bool.{Bool, true, false, cond}
 use mathlib.Core.List.{List, [], ◌∷◌, ◌++◌, append-nil}
@@ -13,16 +13,14 @@ use borrow.Author.Tests.{eqb-true}
 use borrow.Rule.Slice.PartMut.{put_mid}
 use Rattle.steps.specs.State.{State}
 use Rattle.multimap.specs.Map.{state_of}
-use Rattle.multimap.specs.WellLinked.{WellLinked}
 use Rattle.multimap.specs.declared.ListOrderedMultimap.{ListOrderedMultimap}
 use Rattle.parsing.specs.Split.{gap}
 use Rattle.parsing.proofs.Splits.{take_front}
 use Rattle.printing.specs.Said.{Roomy}
-use Rattle.one_line.specs.Answers.{Answered, Answers}
+use Rattle.one_line.specs.Answers.{Answers}
 use Rattle.lines.specs.Output.{output_of, after}
-use Rattle.lines.specs.Chunk.{held_of, ended, rest, front, Chunked, AnswersChunk, AnswersRest}
+use Rattle.lines.specs.Chunk.{held_of, ended, rest, front, Chunked, AnswersRest}
 use Rattle.lines.specs.Taken.{Ends, GoesOn}
-use Rattle.lines.specs.declared.Progress.{Progress}
 use Rattle.lines.specs.declared.Unfinished.{Unfinished}
 use Rattle.lines.proofs.Outputs.{same_printed, same_after, outputs_none, outputs_one, outputs_as, outputs_join}
 
@@ -81,32 +79,32 @@ pub front_front : (h : List ℕ) → front (front h) ≡ front h
 front_front h = take_all 1101 (take 1101 h) (omega (arith, length-take 1101 h))
 
 -- before the first turn
-pub chunk_none : (u : Unfinished) (m : ListOrderedMultimap) (was : List ℕ) → WellLinked m → length u.bytes ≡ 1101 → Chunked (held_of u) [] m was was m 0 (held_of u)
+pub chunk_none : (u : Unfinished) (m : ListOrderedMultimap) (was : List ℕ) → length u.bytes ≡ 1101 → Chunked (held_of u) [] m was was m 0 (held_of u)
 unfolding ended rest
-chunk_none u m was g l =
+chunk_none u m was l =
     record {
-      outputs = outputs_none m was g;
+      outputs = outputs_none m was;
       held = sym (take_all 1101 (held_of u) (omega (arith, length-take u.held u.bytes)));
     }
 
-pub chunk_join : {h x h' y h'' : List ℕ} {m m' m'' : ListOrderedMultimap} {was out part : List ℕ} {u v : ℕ} → Chunked h x m was out m' u h' → Chunked h' y m' (drop u out) part m'' v h''
-    → Chunked h (x ++ y) m was (take u out ++ part) m'' (u + v) h''
-chunk_join {h} {x} {h'} {y} {h''} {m} {m'} p q =
+pub chunk_join : {h x h' y h'' : List ℕ} {m m' m'' : ListOrderedMultimap} {was out part : List ℕ} {u v : ℕ} → length out ≡ length was → Chunked h x m was out m' u h'
+    → Chunked h' y m' (drop u out) part m'' v h'' → Chunked h (x ++ y) m was (take u out ++ part) m'' (u + v) h''
+chunk_join {h} {x} {h'} {y} {h''} {m} {m'} long p q =
     let e : front h' ≡ front (rest h x) = ap front p.held ∙ front_front (rest h x) in
     let a = alike y h' (rest h x) e in
-    let o = outputs_join p.outputs (outputs_as (ended (rest h x) y) q.outputs (alike_output (state_of m') a.0) (alike_after (state_of m') a.0) (alike_none a.0)) in
+    let o = outputs_join long p.outputs (outputs_as (ended (rest h x) y) q.outputs (alike_output (state_of m') a.0) (alike_after (state_of m') a.0) (alike_none a.0)) in
     let c = chunk_append x y h in
     record { outputs = rw c.0 o; held = q.held ∙ a.1 ∙ ap front (sym c.1) }
 
 -- a turn of `answer_chunk`: the next part of the chunk is answered to the part of `out` that is left
-pub chunk_turn : (chunk : List ℕ) (at e : ℕ) {h h' h'' : List ℕ} {m m' m'' : ListOrderedMultimap} {was out part : List ℕ} {used v : ℕ} → Chunked h (take at chunk) m was out m' used h'
-    → Chunked h' (take e (take (length chunk - at) (drop at chunk))) m' (take (length out - used) (drop used out)) part m'' v h''
+pub chunk_turn : (chunk : List ℕ) (at e : ℕ) {h h' h'' : List ℕ} {m m' m'' : ListOrderedMultimap} {was out part : List ℕ} {used v : ℕ} → length out ≡ length was
+    → Chunked h (take at chunk) m was out m' used h' → Chunked h' (take e (take (length chunk - at) (drop at chunk))) m' (take (length out - used) (drop used out)) part m'' v h''
     → Chunked h (take (at + e) chunk) m was (put_mid used (length out - used) out part) m'' (used + v) h''
-chunk_turn chunk at e {h} {h'} {h''} {m} {m'} {m''} {was} {out} {part} {used} {v} p q =
+chunk_turn chunk at e {h} {h'} {h''} {m} {m'} {m''} {was} {out} {part} {used} {v} long p q =
     let c : take (length chunk - at) (drop at chunk) ≡ drop at chunk = take_all (length chunk - at) (drop at chunk) (omega (arith, length-drop at chunk)) in
     let o : take (length out - used) (drop used out) ≡ drop used out = take_all (length out - used) (drop used out) (omega (arith, length-drop used out)) in
     let n : drop (length out - used) (drop used out) ≡ [] = drop_of_length-le (drop used out) {i = length out - used} (omega (arith, length-drop used out)) in
-    rw (take-add at e chunk, n, append-nil part) (chunk_join p (rw (c, o) at q))
+    rw (take-add at e chunk, n, append-nil part) (chunk_join long p (rw (c, o) at q))
 
 -- ---- a chunk up to its first line end
 
@@ -142,7 +140,7 @@ goes_on (b ∷ c) h i = goes_when b c h (eqb b 10) i (goes_on c)
 -- what `take_line` takes of a chunk, and what is done with it
 module _ {chunk : List ℕ} {was line : Unfinished} (long : length was.bytes ≡ 1101) where
   -- a line has ended, and is answered
-  pub took_line : {m m' : ListOrderedMultimap} {old out : List ℕ} {u n : ℕ} → Ends chunk was line u → Roomy old → Answered (held_of line) m old out m' n
+  pub took_line : {m m' : ListOrderedMultimap} {old out : List ℕ} {u n : ℕ} → Ends chunk was line u → Roomy old → Answers (held_of line) m old out m' n
       → Chunked (held_of was) (take u chunk) m old out m' n []
   took_line {m} {m'} {old} {out} {u} {n} k h a =
       let all = held_of was ++ take (gap 10 chunk) chunk in
@@ -155,33 +153,21 @@ module _ {chunk : List ℕ} {was line : Unfinished} (long : length was.bytes ≡
       }
 
   -- the line goes on
-  pub took_part : {m : ListOrderedMultimap} (old : List ℕ) → GoesOn chunk was line → WellLinked m → Chunked (held_of was) (take (length chunk) chunk) m old old m 0 (held_of line)
-  took_part {m} old k l =
+  pub took_part : {m : ListOrderedMultimap} (old : List ℕ) → GoesOn chunk was line → Chunked (held_of was) (take (length chunk) chunk) m old old m 0 (held_of line)
+  took_part {m} old k =
       let g : length chunk ≤ gap 10 chunk = omega (arith, k.whole) in
       let u : take (length chunk) chunk ≡ chunk = take_all (length chunk) chunk (omega arith) in
       record {
-        outputs = rw (u, (goes_on chunk (held_of was) g).0) (outputs_none m old l);
+        outputs = rw (u, (goes_on chunk (held_of was) g).0) (outputs_none m old);
         held = k.holds.front ∙ ap (λ (i : ℕ). take i (held_of was ++ chunk)) long ∙ ap front (sym (goes_on chunk (held_of was) g).1 ∙ ap (rest (held_of was)) (sym u));
       }
 
 -- ---- the end of the input
 
-pub rest_none : (l : List ℕ) (m : ListOrderedMultimap) (was : List ℕ) → WellLinked m → (length l == 0) ≡ true → AnswersRest l m was was m 0
-rest_none [] m was g h = record { answered = λ r. outputs_none m was g; unanswered = λ r. record { kept = refl; none = refl; same = refl } }
-rest_none (b ∷ bs) m was g h = absurd (omega (arith, eqb-true (length (b ∷ bs)) 0 h))
+pub rest_none : (l : List ℕ) (m : ListOrderedMultimap) (was : List ℕ) → (length l == 0) ≡ true → AnswersRest l m was was m 0
+rest_none [] m was h = record { answered = λ r. outputs_none m was; unanswered = λ r. record { kept = refl; none = refl; same = refl } }
+rest_none (b ∷ bs) m was h = absurd (omega (arith, eqb-true (length (b ∷ bs)) 0 h))
 
 pub rest_some : {m m' : ListOrderedMultimap} {was out : List ℕ} {k : ℕ} (l : List ℕ) → (length l == 0) ≡ false → Answers l m was out m' k → AnswersRest l m was out m' k
 rest_some [] h a = cc
-rest_some (b ∷ bs) h a = record { answered = λ r. outputs_one (b ∷ bs) refl r (a.answered r); unanswered = a.unanswered }
-
--- with room for an answer some of a chunk is used
-pub eats : {chunk h : List ℕ} {m : ListOrderedMultimap} {was out : List ℕ} {m' : ListOrderedMultimap} {h' : List ℕ} {r : Progress} → AnswersChunk chunk h m was out m' h' r → Roomy was → 0 < length chunk
-    → 0 < r.eaten
-unfolding ended output_of
-eats {chunk} {h} {m} {was} {out} {m'} {h'} {r} a g l = some r.eaten refl
-  where
-    some : (e : ℕ) → r.eaten ≡ e → 0 < r.eaten
-    some zero i =
-        let u : r.used ≡ 0 = a.chunked.outputs.count ∙ ap (λ (n : ℕ). length (output_of (ended h (take n chunk)) (state_of m))) i in
-        absurd (omega (arith, a.far (omega arith)))
-    some (suc e) i = omega arith
+rest_some (b ∷ bs) h a = record { answered = λ r. outputs_one (b ∷ bs) refl r a; unanswered = a.unanswered }

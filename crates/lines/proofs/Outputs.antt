@@ -8,14 +8,13 @@ use lib.Seq.{take_at, drop_at, drop-drop}
 use Rattle.steps.specs.State.{State}
 use Rattle.steps.specs.Step.{over}
 use Rattle.multimap.specs.Map.{state_of}
-use Rattle.multimap.specs.WellLinked.{WellLinked}
 use Rattle.multimap.specs.declared.ListOrderedMultimap.{ListOrderedMultimap}
 use Rattle.parsing.specs.Line.{Line, line_of}
 use Rattle.parsing.proofs.Splits.{line_cut}
 use Rattle.printing.specs.Said.{Roomy}
 use Rattle.line_calls.specs.Answer.{answer_of}
-use Rattle.one_line.specs.Answers.{printed, Answered}
-use Rattle.lines.specs.Output.{output_of, after, Outputs}
+use Rattle.one_line.specs.Answers.{printed, Answers}
+use Rattle.lines.specs.Output.{output_of, after, AnsweredAll, Outputs}
 use Rattle.lines.specs.Chunk.{front}
 
 pub output_append : (ls ms : List (List ℕ)) (s : State) → output_of (ls ++ ms) s ≡ output_of ls s ++ output_of ms (after ls s)
@@ -51,22 +50,27 @@ unfolding after
 after_one l s = refl
 
 -- nothing is answered
-pub outputs_none : (m : ListOrderedMultimap) (was : List ℕ) → WellLinked m → Outputs [] m was was m 0
+pub outputs_none : (m : ListOrderedMultimap) (was : List ℕ) → Outputs [] m was was m 0
 unfolding output_of after
-outputs_none m was g = record { bytes = refl; count = refl; room = omega arith; state = refl; linked = g; same = λ e. refl }
+outputs_none m was = record { room = omega arith; answered = λ wl. record { bytes = refl; count = refl; state = refl; linked = wl; same = λ e. refl } }
 
 -- a line is answered, by its front
-pub outputs_one : {l : List ℕ} {m : ListOrderedMultimap} {was out : List ℕ} {m' : ListOrderedMultimap} {n : ℕ} (line : List ℕ) → front l ≡ front line → Roomy was → Answered l m was out m' n
+pub outputs_one : {l : List ℕ} {m : ListOrderedMultimap} {was out : List ℕ} {m' : ListOrderedMultimap} {n : ℕ} (line : List ℕ) → front l ≡ front line → Roomy was → Answers l m was out m' n
     → Outputs (line ∷ []) m was out m' n
 outputs_one {l} {m} {was} {out} {m'} {n} line e h a =
     let o : printed l (state_of m) ≡ output_of (line ∷ []) (state_of m) = sym (output_one l (state_of m)) ∙ same_printed l line [] (state_of m) e in
     record {
-      bytes = a.bytes ∙ ap (λ (x : List ℕ). over x was) o;
-      count = a.count ∙ ap length o;
       room = omega (arith, a.most);
-      state = a.state ∙ sym (after_one l (state_of m)) ∙ same_after l line [] (state_of m) e;
-      linked = a.linked;
-      same = λ f. let z : ◌≡◌ {A = ℕ} 0 1 = cc in absurd (omega arith);
+      answered =
+          λ wl.
+          let r = a.answered h wl in
+          record {
+            bytes = r.bytes ∙ ap (λ (x : List ℕ). over x was) o;
+            count = r.count ∙ ap length o;
+            state = r.state ∙ sym (after_one l (state_of m)) ∙ same_after l line [] (state_of m) e;
+            linked = r.linked;
+            same = λ f. let z : ◌≡◌ {A = ℕ} 0 1 = cc in absurd (omega arith);
+          };
     }
 
 -- lines that print the same and leave the same state
@@ -74,16 +78,21 @@ pub outputs_as : {ls : List (List ℕ)} {m : ListOrderedMultimap} {was out : Lis
     → output_of ls (state_of m) ≡ output_of ms (state_of m) → after ls (state_of m) ≡ after ms (state_of m) → (ms ≡ [] → ls ≡ []) → Outputs ms m was out m' n
 outputs_as {ls} {m} {was} {out} {m'} {n} ms o e f g =
     record {
-      bytes = o.bytes ∙ ap (λ (x : List ℕ). over x was) e;
-      count = o.count ∙ ap length e;
       room = o.room;
-      state = o.state ∙ f;
-      linked = o.linked;
-      same = λ h. o.same (g h);
+      answered =
+          λ wl.
+          let r = o.answered wl in
+          record {
+            bytes = r.bytes ∙ ap (λ (x : List ℕ). over x was) e;
+            count = r.count ∙ ap length e;
+            state = r.state ∙ f;
+            linked = r.linked;
+            same = λ h. r.same (g h);
+          };
     }
 
 -- one after another
-module _ {ls ms : List (List ℕ)} {m m' m'' : ListOrderedMultimap} {was out part : List ℕ} {u v : ℕ} (p : Outputs ls m was out m' u) (q : Outputs ms m' (drop u out) part m'' v) where
+module _ {ls ms : List (List ℕ)} {m m' m'' : ListOrderedMultimap} {was out part : List ℕ} {u v : ℕ} (p : AnsweredAll ls m was out m' u) (q : AnsweredAll ms m' (drop u out) part m'' v) where
   first : List ℕ
   first = output_of ls (state_of m)
 
@@ -111,13 +120,12 @@ module _ {ls ms : List (List ℕ)} {m m' m'' : ListOrderedMultimap} {was out par
       ∙ ap (λ (k : ℕ). first ++ (then ++ drop k was)) n
       ∙ sym (append_assoc first then (drop (length (first ++ then)) was))
 
-  pub outputs_join : Outputs (ls ++ ms) m was (take u out ++ part) m'' (u + v)
+  answered_join : AnsweredAll (ls ++ ms) m was (take u out ++ part) m'' (u + v)
   unfolding first then
-  outputs_join =
+  answered_join =
       record {
         bytes = put ∙ ap (λ (x : List ℕ). over x was) all;
         count = omega (arith, p.count, q.count, length-append first then, ap length all);
-        room = omega (arith, p.room, q.room, ap length left, length-drop u was);
         state = q.state ∙ ap (after ms) p.state ∙ sym (after_append ls ms (state_of m));
         linked = q.linked;
         same = λ e. q.same (none ls ms e).1 ∙ p.same (none ls ms e).0;
@@ -126,3 +134,8 @@ module _ {ls ms : List (List ℕ)} {m m' m'' : ListOrderedMultimap} {was out par
       none : (ls ms : List (List ℕ)) → ls ++ ms ≡ [] → (ls ≡ []) × (ms ≡ [])
       none [] ms e = (refl, e)
       none (l ∷ ls) ms e = let z : ◌≡◌ {A = ℕ} 0 1 = cc in absurd (omega arith)
+
+pub outputs_join : {ls ms : List (List ℕ)} {m m' m'' : ListOrderedMultimap} {was out part : List ℕ} {u v : ℕ} → length out ≡ length was → Outputs ls m was out m' u
+    → Outputs ms m' (drop u out) part m'' v → Outputs (ls ++ ms) m was (take u out ++ part) m'' (u + v)
+outputs_join {out = out} {u = u} long p q =
+    record { room = omega (arith, p.room, q.room, length-drop u out); answered = λ wl. answered_join (p.answered wl) (q.answered (p.answered wl).linked) }

@@ -35,11 +35,13 @@ pub record Chunked (h c : List ℕ) (m : ListOrderedMultimap) (was out : List �
   pub outputs : Outputs (ended h c) m was out m' used
   pub held : h' ≡ front (rest h c)
 
--- so much of the chunk is answered, and held' is held then: all of it, unless the room left is less than any answer may want
+-- so much of the chunk is answered, and held' is held then: all of it, unless the room left is less than any answer may want, and some of it
+-- where there is room for an answer
 pub record AnswersChunk (chunk held : List ℕ) (m : ListOrderedMultimap) (was out : List ℕ) (m' : ListOrderedMultimap) (held' : List ℕ) (r : Progress) : Type 0 where
   pub chunked : Chunked held (take r.eaten chunk) m was out m' r.used held'
   pub within : r.eaten ≤ length chunk
   pub far : r.used + max_printed ≤ length was → r.eaten ≡ length chunk
+  pub some : Roomy was → 0 < length chunk → 0 < r.eaten
 
 -- the input has ended: what is held is the last line, if there is any. It is answered where there is room for any answer
 pub record AnswersRest (held : List ℕ) (m : ListOrderedMultimap) (was out : List ℕ) (m' : ListOrderedMultimap) (n : ℕ) : Type 0 where

@@ -21,10 +21,14 @@ output_of (l ∷ ls) s = printed l s ++ output_of ls (answer_of (line_of l) s).1
 
 -- the lines are answered: the n printed bytes are at the front of `out`, the others are kept; the map m' that is left is well-linked and has
 -- the state after the lines; without a line it is the very map
-pub record Outputs (ls : List (List ℕ)) (m : ListOrderedMultimap) (was out : List ℕ) (m' : ListOrderedMultimap) (n : ℕ) : Type 0 where
+pub record AnsweredAll (ls : List (List ℕ)) (m : ListOrderedMultimap) (was out : List ℕ) (m' : ListOrderedMultimap) (n : ℕ) : Type 0 where
   pub bytes : out ≡ over (output_of ls (state_of m)) was
   pub count : n ≡ length (output_of ls (state_of m))
-  pub room : n ≤ length was
   pub state : state_of m' ≡ after ls (state_of m)
   pub linked : WellLinked m'
   pub same : ls ≡ [] → m' ≡ m
+
+-- so of every well-linked map; of any other no more than that the printed bytes have room
+pub record Outputs (ls : List (List ℕ)) (m : ListOrderedMultimap) (was out : List ℕ) (m' : ListOrderedMultimap) (n : ℕ) : Type 0 where
+  pub room : n ≤ length was
+  pub answered : WellLinked m → AnsweredAll ls m was out m' n

@@ -3,7 +3,6 @@
 #![tactic(auto)]
 
 ghost use Rattle.std.specs.Prelude.{◌<◌, ◌≤◌, ◌≡◌, [], length, take};
-ghost use Rattle.multimap.specs.WellLinked.{WellLinked};
 ghost use Rattle.printing.specs.Said.{Roomy};
 ghost use Rattle.lines.specs.Chunk.{held_of, Chunked, AnswersChunk, AnswersRest};
 ghost use Rattle.lines.specs.Taken.{Took};
@@ -64,7 +63,6 @@ pub fn answer_chunk(
     line: &mut Unfinished,
     out: &mut [u8],
 ) -> Progress
-    requires { WellLinked map.old }
     ensures { AnswersChunk chunk.now (held_of line.old) map.old out.old out.new map.new (held_of line.new) result }
 {
     let mut used = 0;
@@ -82,7 +80,6 @@ pub fn answer_chunk(
 // is 0.
 #[tactic(auto, using(crate::proofs::Chunks::rest_none, crate::proofs::Chunks::rest_some))]
 pub fn answer_rest(map: &mut ListOrderedMultimap, line: &Unfinished, out: &mut [u8]) -> usize
-    requires { WellLinked map.old }
     ensures { AnswersRest (held_of line.now) map.old out.old out.new map.new result }
 {
     let last = line.front();
@@ -99,7 +96,6 @@ fn answer_next(
     line: &mut Unfinished,
     out: &mut [u8],
 ) -> Progress
-    requires linked { WellLinked map.old }
     requires roomy { Roomy out.old }
     requires some { 0 < length chunk.now }
     ensures chunked { Chunked (held_of line.old) (take result.eaten chunk.now) map.old out.old out.new map.new result.used (held_of line.new) }

@@ -9,14 +9,15 @@ use lib.Dec.{leb}
 use lib.ListN.{length, take, drop, set, length-drop}
 use lib.Seq.{take_all}
 use Rattle.multimap.specs.Map.{state_of}
+use Rattle.multimap.specs.WellLinked.{WellLinked}
 use Rattle.multimap.specs.declared.ListOrderedMultimap.{ListOrderedMultimap}
 use Rattle.parsing.specs.Line.{line_of, keeps, bad, mark_of}
 use Rattle.parsing.proofs.Forms.{line_long}
 use Rattle.printing.specs.Put.{Put}
-use Rattle.printing.specs.Said.{Said, Roomy, max_printed}
-use Rattle.printing.proofs.Puts.{put_join, put_long}
-use Rattle.line_calls.specs.Answer.{answer_of, marks_line}
-use Rattle.line_calls.specs.Replied.{Replied}
+use Rattle.printing.specs.Said.{Roomy, max_printed}
+use Rattle.printing.proofs.Puts.{put_join}
+use Rattle.line_calls.specs.Answer.{marks_line}
+use Rattle.line_calls.specs.Replied.{Replies}
 use Rattle.line_calls.proofs.Calls.{marks_short, put_over}
 use Rattle.one_line.specs.Answers.{printed, Answers}
 
@@ -44,31 +45,22 @@ pub marks_rest : (l : List ℕ) (n : ℕ) → n ≡ min 2 (length l) → keeps (
 marks_rest l n e h = ap marks_line (marks_part l n e) ∙ sym (marks_short (drop 2 l) (omega (arith, keeps_short l (map mark_of (drop 2 l)) h, length-drop 2 l))) ∙ h
 
 -- a line is answered, with its line end after the text
-module _ (line : List ℕ) (m : ListOrderedMultimap) {was out : List ℕ} {m' : ListOrderedMultimap} {n : ℕ} (h : Roomy was) (p : Replied (line_of line) m was out m' n) where
-  said : Said was (answer_of (line_of line) (state_of m)).0 out n
-  said = p.prints.said h
-
-  pub line_room : n < length out
-  line_room = omega (arith, said.room, put_long said.put)
-
-  pub line_most : n < max_printed
-  line_most = said.room
-
-  ended : Put was 0 (printed line (state_of m)) (set out n 10) (n + 1)
-  ended = put_join said.put (record { written = refl; next = refl })
+module _ (line : List ℕ) (m : ListOrderedMultimap) {was out : List ℕ} {m' : ListOrderedMultimap} {n : ℕ} (h : Roomy was) (p : Replies (line_of line) m was out m' n) where
+  ended : WellLinked m → Put was 0 (printed line (state_of m)) (set out n 10) (n + 1)
+  ended wl = put_join ((p.replied wl).prints.said h).put (record { written = refl; next = refl })
 
   pub line_answered : Answers line m was (set out n 10) m' (n + 1)
   line_answered =
       record {
+        most = omega (arith, p.short h);
         answered =
-            λ g.
+            λ g wl.
             record {
-              bytes = put_over ended (omega (arith, said.room, ended.next));
-              count = omega (arith, ended.next);
-              most = omega (arith, said.room);
-              state = p.state;
-              linked = p.linked;
-              same = p.same;
+              bytes = put_over (ended wl) (omega (arith, p.short h, (ended wl).next));
+              count = omega (arith, (ended wl).next);
+              state = (p.replied wl).state;
+              linked = (p.replied wl).linked;
+              same = (p.replied wl).same;
             };
         unanswered = λ g. absurd (omega arith);
       }
@@ -76,4 +68,4 @@ module _ (line : List ℕ) (m : ListOrderedMultimap) {was out : List ℕ} {m' : 
 -- there is no room
 pub line_unanswered : (line : List ℕ) (m : ListOrderedMultimap) (was : List ℕ) → length was < max_printed → Answers line m was was m 0
 line_unanswered line m was h =
-    record { answered = λ g. absurd (omega arith); unanswered = λ g. record { kept = refl; none = refl; same = refl } }
+    record { most = omega arith; answered = λ g. absurd (omega arith); unanswered = λ g. record { kept = refl; none = refl; same = refl } }

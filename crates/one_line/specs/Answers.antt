@@ -18,7 +18,6 @@ printed line s = (answer_of (line_of line) s).0 ++ (10 ∷ [])
 pub record Answered (line : List ℕ) (m : ListOrderedMultimap) (was out : List ℕ) (m' : ListOrderedMultimap) (n : ℕ) : Type 0 where
   pub bytes : out ≡ over (printed line (state_of m)) was
   pub count : n ≡ length (printed line (state_of m))
-  pub most : n ≤ max_printed
   pub state : state_of m' ≡ (answer_of (line_of line) (state_of m)).1
   pub linked : WellLinked m'
   pub same : idle (line_of line) (state_of m) ≡ true → m' ≡ m
@@ -29,7 +28,8 @@ pub record Unanswered (m : ListOrderedMultimap) (was out : List ℕ) (m' : ListO
   pub none : n ≡ 0
   pub same : m' ≡ m
 
--- a line is answered where there is room for any answer
+-- a line is answered where there is room for any answer, on a well-linked map; on no map are more bytes printed than the longest line has
 pub record Answers (line : List ℕ) (m : ListOrderedMultimap) (was out : List ℕ) (m' : ListOrderedMultimap) (n : ℕ) : Type 0 where
-  pub answered : Roomy was → Answered line m was out m' n
+  pub most : n ≤ max_printed
+  pub answered : Roomy was → WellLinked m → Answered line m was out m' n
   pub unanswered : length was < max_printed → Unanswered m was out m' n

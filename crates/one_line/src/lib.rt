@@ -2,9 +2,8 @@
 
 #![tactic(auto)]
 
-ghost use Rattle.multimap.specs.WellLinked.{WellLinked};
 ghost use Rattle.parsing.specs.Line as Line;
-ghost use Rattle.line_calls.specs.Replied.{Replied};
+ghost use Rattle.line_calls.specs.Replied.{Replies};
 ghost use Rattle.one_line.specs.Answers.{Answers};
 
 use multimap::ListOrderedMultimap;
@@ -13,9 +12,8 @@ use printing::MAX_PRINTED;
 
 // Does what the line asks, prints its answer and the line end to the front of `out`, and answers how many bytes were printed. Where `out` has
 // no room for the longest printed line nothing is done, and the answer is 0.
-#[tactic(auto, using(crate::proofs::Lines::line_answered, crate::proofs::Lines::line_unanswered, crate::proofs::Lines::line_room, crate::proofs::Lines::line_most))]
+#[tactic(auto, using(crate::proofs::Lines::line_answered, crate::proofs::Lines::line_unanswered))]
 pub fn answer_line(map: &mut ListOrderedMultimap, line: &[u8], out: &mut [u8]) -> usize
-    requires { WellLinked map.old }
     ensures { Answers line.now map.old out.old out.new map.new result }
 {
     if out.len() < MAX_PRINTED {
@@ -29,8 +27,7 @@ pub fn answer_line(map: &mut ListOrderedMultimap, line: &[u8], out: &mut [u8]) -
 // Makes the call that the line asks, and prints its answer.
 #[tactic(auto, using(crate::proofs::Lines::marks_rest))]
 fn ask(map: &mut ListOrderedMultimap, line: &[u8], out: &mut [u8]) -> usize
-    requires { WellLinked map.old }
-    ensures { Replied (Line.line_of line.now) map.old out.old out.new map.new result }
+    ensures { Replies (Line.line_of line.now) map.old out.old out.new map.new result }
 {
     match parsing::parse(line) {
         Request::Adds(k, v) => line_calls::adds(map, k, v, out),

@@ -8,8 +8,9 @@ use Rattle.lines.proofs.answer_chunk.Goals as goal
 pub loop-at-init : goal.loop-at-init
 loop-at-init c =
     record {
-      chunked = chunk_none c.args.line.now _ _ c.requires (omega arith);
+      chunked = chunk_none c.args.line.now _ _ (omega arith);
       within = omega arith;
+      some = λ e. e;
     }
 
 pub loop-at-preserved : goal.loop-at-preserved
@@ -18,6 +19,7 @@ loop-at-preserved c =
     let chunk = c.args.chunk.now in
     let next = c.answer_next-next in
     record {
-      chunked = chunk_turn chunk c.loop-at.at next.result.eaten i.chunked next.ensures.chunked;
+      chunked = chunk_turn chunk c.loop-at.at next.result.eaten c.loop-at.auto.out i.chunked next.ensures.chunked;
       within = omega (arith, i.within, next.ensures.eaten_nonzero.1, length-take (length chunk - c.loop-at.at) (drop c.loop-at.at chunk), length-drop c.loop-at.at chunk);
+      some = λ e. absurd (omega (arith, next.ensures.eaten_nonzero.0));
     }
