@@ -12,11 +12,11 @@ use native.Mathlib.Numerals.{add-one}
 use borrow.Author.Tests.{ne_eqb, eqb-true, eqb-false, le-leb, lt-leb}
 use native.Mathlib.Nat.{eq-or-lt_of_le}
 use lib.Dec.{eqb, leb}
-use lib.Seq.{take-length}
-use lib.ListN.{length, get_or, take, drop}
+use lib.Seq.{take-length, take_all}
+use lib.ListN.{length, get_or, take, drop, length-drop}
 use Rattle.parsing.specs.Line.{adds, inserts, bad, number_of, onto, fields, alone, with_one, with_two, of_numbers, fielded, form_of, line_of}
-use Rattle.parsing.specs.Split.{gap}
-use Rattle.parsing.proofs.Gaps.{gap_le}
+use Rattle.parsing.specs.Split.{gap, find}
+use Rattle.parsing.proofs.Gaps.{gap_le, found, not_found}
 
 same : {A : Type 0} (a b : Bool) (x : A) → x ≡ cond a x (cond b x x)
 same true b x = refl
@@ -89,12 +89,16 @@ second_field c x y false e =
 
 -- the fields after a letter: one, or two
 module _ (c : ℕ) (rest : List ℕ) where
-  pub fields_one : gap 32 rest ≡ length rest → with_one c rest ≡ fielded c (fields rest)
-  fields_one e = rw (fields_none rest e)
+  pub fields_one : find 32 rest ≡ None → with_one c rest ≡ fielded c (fields rest)
+  fields_one e = rw (fields_none rest (not_found 32 rest e))
 
-  pub fields_two : gap 32 rest < length rest → with_two c (take (gap 32 rest) rest) (drop (gap 32 rest + 1) rest) ≡ fielded c (fields rest)
-  fields_two h =
-      rw (fields_some rest h, add-one (gap 32 rest))
+  pub fields_two : (n : ℕ) → find 32 rest ≡ Some n → with_two c (take n rest) (take (length rest - (n + 1)) (drop (n + 1) rest)) ≡ fielded c (fields rest)
+  fields_two n e =
+      let f = found 32 rest n e in
+      let h : gap 32 rest < length rest = omega (arith, f.is, f.within) in
+      ap (λ (y : List ℕ). with_two c (take n rest) y) (take_all (length rest - (n + 1)) (drop (n + 1) rest) (omega (arith, length-drop (n + 1) rest)))
+      ∙ ap (λ (k : ℕ). with_two c (take k rest) (drop (k + 1) rest)) f.is
+      ∙ rw (fields_some rest h, add-one (gap 32 rest))
       (second_field c (take (gap 32 rest) rest) (drop (suc (gap 32 rest)) rest) (eqb (gap 32 (drop (suc (gap 32 rest)) rest)) (length (drop (suc (gap 32 rest)) rest))) refl)
 
 pub line_long : (l : List ℕ) → 1100 < length l → bad ≡ line_of l

@@ -9,6 +9,7 @@ ghost use Rattle.parsing.specs.Told.{told};
 ghost use Rattle.std.specs.List.{list_all};
 
 // Reads one or more digits: None where there is another byte, or the value is not below 2^64.
+#[tactic(auto, using(crate::proofs::Numbers::off, crate::proofs::Numbers::some_digits))]
 pub fn read_number(s: &[u8]) -> Option<u64>
     ensures { result ≡ Line.number_of s.now }
 {
@@ -30,6 +31,7 @@ pub fn are_marks(s: &[u8]) -> bool
 }
 
 // Counts the bytes before the first b.
+#[tactic(auto, using(crate::proofs::Gaps::before))]
 pub fn gap(s: &[u8], b: u8) -> usize
     ensures count { result ≡ gap_of b s.now }
     ensures within { result ≤ length s.now }
@@ -61,6 +63,7 @@ pub enum Request {
 // The longest line, without its line end.
 pub const MAX_LINE: usize = 1100;
 
+#[tactic(auto, using(crate::proofs::Forms::line_long, crate::proofs::Forms::line_empty, crate::proofs::Forms::line_second, crate::proofs::Forms::line_alone, crate::proofs::Forms::line_fields, crate::proofs::Forms::single, crate::proofs::Forms::letter_space))]
 pub fn parse(line: &[u8]) -> Request
     ensures { told result line.now ≡ Line.line_of line.now }
 {
@@ -131,6 +134,7 @@ fn with_two(c: u8, x: &[u8], y: &[u8]) -> Request
 }
 
 // Reads a letter and the fields after its space.
+#[tactic(auto, using(crate::proofs::Forms::fields_one, crate::proofs::Forms::fields_two))]
 fn with_fields(c: u8, rest: &[u8]) -> Request
     ensures { told result (c ∷ (32 ∷ rest.now)) ≡ Line.fielded c (Line.fields rest.now) }
 {
