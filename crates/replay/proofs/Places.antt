@@ -9,9 +9,8 @@ use lib.ListN.{length, take, drop, length-drop}
 use Rattle.std.proofs.lemmas.List.{take_all}
 use lib.Seq.{drop-drop, length-take-le}
 use borrow.Rule.Slice.PartMut.{put_mid}
-use Rattle.multimap.specs.WellLinked.{WellLinked, linked}
+use Rattle.multimap.specs.WellLinked.{CallsTold, linked}
 use Rattle.multimap.specs.declared.ListOrderedMultimap.{ListOrderedMultimap}
-use Rattle.steps.specs.Told.{Told}
 use Rattle.steps.specs.Call.{call_of}
 use Rattle.replay.specs.Place.{head_of, fits_at, Ready, Past, Within, rest, Same, At, AllRan, Onward, Ended}
 use Rattle.replay.specs.declared.Head.{Head}
@@ -19,7 +18,7 @@ use Rattle.replay.specs.declared.Place.{Place}
 use Rattle.replay.specs.declared.Tape.{Tape}
 use Rattle.replay.specs.Tape.{Reached}
 use Rattle.replay.proofs.Tapes.{Fits, fits_says, decode_none, head_says}
-use Rattle.replay.proofs.Running.{ended_not, stops, turn_on}
+use Rattle.replay.proofs.Running.{ended_not, length_mid, stops, turn_on}
 
 same_on : {t₀ t t' : Tape} → Same t₀ t → Same t t' → Same t₀ t'
 same_on a b =
@@ -78,28 +77,46 @@ module _ (p : Place) (t : Tape) (m : ListOrderedMultimap) where
         part2 : length (take n2 (drop p.out2 t.outs2.now)) ≡ n2
         part2 = length-take-le n2 (drop p.out2 t.outs2.now) (omega (arith, length-drop p.out2 t.outs2.now, room.n2_in))
 
-        pub ready : WellLinked m → Ready m h.op (take n (drop p.out t.outs.now)) (take n2 (drop p.out2 t.outs2.now)) × (length (take b (drop (4 * p.ran) t.answers.now)) ≡ 4)
-        ready l = (
+        part3 : length (take b (drop (4 * p.ran) t.answers.now)) ≡ b
+        part3 = length-take-le b (drop (4 * p.ran) t.answers.now) (omega (arith, length-drop (4 * p.ran) t.answers.now, room.space_in))
+
+        pub ready : Ready h.op (take n (drop p.out t.outs.now)) (take n2 (drop p.out2 t.outs2.now)) × (length (take b (drop (4 * p.ran) t.answers.now)) ≡ 4)
+        ready = (
           record {
-            linked = l;
             known = room.op_in;
             no_slice = λ e. part ∙ n_is ∙ room.no_slice e;
             no_second = λ e. part2 ∙ n2_is ∙ room.no_second e;
           },
-          length-take-le b (drop (4 * p.ran) t.answers.now) (omega (arith, length-drop (4 * p.ran) t.answers.now, room.space_in)) ∙ b_is,
+          part3 ∙ b_is,
         )
 
-        pub goes_on : (q : Place) (t' : Tape) (m' : ListOrderedMultimap) (o o2 k : List ℕ) → Past p h q → Same t t'
+        pub goes_on : (q : Place) (t' : Tape) (m' : ListOrderedMultimap) (o o2 k : List ℕ) → Past p h q → Within p t → Same t t'
             → t'.outs.now ≡ put_mid p.out n t.outs.now o → t'.outs2.now ≡ put_mid p.out2 n2 t.outs2.now o2 → t'.answers.now ≡ put_mid (4 * p.ran) b t.answers.now k
             → length o ≡ length (take n (drop p.out t.outs.now)) → length o2 ≡ length (take n2 (drop p.out2 t.outs2.now))
-            → Told linked (call_of h.op h.poster h.k h.v (take n (drop p.out t.outs.now)) (take n2 (drop p.out2 t.outs2.now)) (take n3 (drop p.mark t.marks.now))) m m' o o2 k
+            → length k ≡ length (take b (drop (4 * p.ran) t.answers.now))
+            → CallsTold (call_of h.op h.poster h.k h.v (take n (drop p.out t.outs.now)) (take n2 (drop p.out2 t.outs2.now)) (take n3 (drop p.mark t.marks.now))) m m' o o2 k
             → Onward p t m q t' m'
-        goes_on q t' m' o o2 k past s outs_are outs2_are ans_are ol o2l told =
+        goes_on q t' m' o o2 k past w s outs_are outs2_are ans_are ol o2l kl told =
             record {
+              within = at_end;
+              same = s;
               keeps = λ t₀ m₀ v. record { same = same_on v.same s; reached = at_q t₀ m₀ v };
               onward = omega (arith, past.ran);
             }
           where
+            calls_long : 7 * p.ran + 7 ≤ length t.calls.now
+            calls_long = omega (arith, ap length numbers, length-drop (7 * p.ran) t.calls.now)
+
+            at_end : Within q t'
+            at_end =
+                record {
+                  call = omega (arith, past.ran, ap length s.calls, calls_long);
+                  out = omega (arith, past.out, n_is, w.out, room.n_in, ap length outs_are, length_mid t.outs.now o p.out n (omega (arith, n_is, w.out, room.n_in)) (ol ∙ part));
+                  out2 = omega (arith, past.out2, n2_is, w.out2, room.n2_in, ap length outs2_are, length_mid t.outs2.now o2 p.out2 n2 (omega (arith, n2_is, w.out2, room.n2_in)) (o2l ∙ part2));
+                  mark = omega (arith, past.mark, w.mark, room.n3_in, ap length s.marks);
+                  answer = omega (arith, past.ran, w.answer, room.space_in, ap length ans_are, length_mid t.answers.now k (4 * p.ran) b (omega (arith, b_is, w.answer, room.space_in)) (kl ∙ part3));
+                }
+
             call_is : 7 * q.ran ≡ 7 * p.ran + 7
             call_is = omega (arith, past.ran)
 
@@ -121,16 +138,12 @@ module _ (p : Place) (t : Tape) (m : ListOrderedMultimap) where
                 rw (call_is, answer_is, past.ran, out_is, out2_is, mark_is, outs_are, outs2_are, ans_are, b_is, ← v.same.calls, ← v.same.marks)
                 (turn_on linked t.calls.now t₀.outs.now t₀.outs2.now t.marks.now t₀.answers.now m₀ t.outs.now t.outs2.now t.answers.now m (7 * p.ran) p.out p.out2 p.mark (4 * p.ran) p.ran
                 (rw (← v.same.calls, ← v.same.marks) at v.reached) m' h.op h.poster h.k h.v n n2 n3 o o2 k (rw (n_is, n2_is, n3_is) numbers)
-                (rw (n_is, n2_is, n3_is) f) (ol ∙ part) (o2l ∙ part2) told)
+                (rw (n_is, n2_is, n3_is) f) (ol ∙ part) (o2l ∙ part2) (told v.reached.linked))
 
 -- a call that was made leaves fewer to come
-pub nearer : {t₀ : Tape} {m₀ : ListOrderedMultimap} {p : Place} {t : Tape} {m : ListOrderedMultimap} {q : Place} {t' : Tape} {m' : ListOrderedMultimap}
-    → At t₀ m₀ p t m → Onward p t m q t' m' → length t'.calls.now - (7 * q.ran) < length t.calls.now - (7 * p.ran)
-nearer {t₀} {m₀} {p} {t} {m} {q} {t'} v o =
-    let u = o.keeps t₀ m₀ v in
-    let e : length t'.calls.now ≡ length t.calls.now = ap length (u.same.calls ∙ sym v.same.calls) in
-    let h : (7 * q.ran) ≤ length t'.calls.now = rw u.same.calls u.reached.i_in in
-    omega (arith, o.onward)
+pub nearer : {p : Place} {t : Tape} {m : ListOrderedMultimap} {q : Place} {t' : Tape} {m' : ListOrderedMultimap}
+    → Within p t → Onward p t m q t' m' → length t'.calls.now - (7 * q.ran) < length t.calls.now - (7 * p.ran)
+nearer w o = omega (arith, o.onward, o.within.call, ap length o.same.calls)
 
 -- where the list does not go on, the run is at its end
 pub all_ran : {t₀ : Tape} {m₀ : ListOrderedMultimap} {p : Place} {t : Tape} {m : ListOrderedMultimap} → At t₀ m₀ p t m → rest p t ≡ [] → AllRan t₀ m₀ t m p.ran

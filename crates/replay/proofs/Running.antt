@@ -27,7 +27,7 @@ module _ (xs ys : List ℕ) (a k : ℕ) (h : a + k ≤ length xs) (e : length ys
   drop_mid : drop (a + k) (put_mid a k xs ys) ≡ drop k (drop a xs)
   drop_mid = ap (drop (a + k)) (sym (append_assoc (take a xs) ys (drop k (drop a xs)))) ∙ drop_at (take a xs ++ ys) (drop k (drop a xs)) (a + k) head_length
 
-  length_mid : length (put_mid a k xs ys) ≡ length xs
+  pub length_mid : length (put_mid a k xs ys) ≡ length xs
   length_mid = same_len_mid a k xs ys (e ∙ sym (length-take-le k (drop a xs) (omega (arith, length-drop a xs))))
 
 -- the list does not go on with the call whose numbers come next

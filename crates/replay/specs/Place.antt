@@ -1,7 +1,7 @@
 -- Where a run of a list of calls stands in its slices, and what the functions that move it on ensure.
 use Rattle.std.specs.Prelude.{◌≡◌, Bool, false, List, [], ◌∷◌, ℕ, Option, Some, None, ◌+◌, ◌*◌, ◌-◌, ◌≤◌, ◌<◌, length, drop}
 use Rattle.steps.specs.Call.{Call, lends, lends_two}
-use Rattle.multimap.specs.WellLinked.{WellLinked, linked}
+use Rattle.multimap.specs.WellLinked.{linked}
 use Rattle.multimap.specs.declared.ListOrderedMultimap.{ListOrderedMultimap}
 use Rattle.replay.specs.Tape.{known, fits, decode, Ran, Reached}
 use Rattle.replay.specs.declared.Head.{Head}
@@ -23,8 +23,7 @@ abbrev pub known_head : Head → Bool
 known_head h = known h.op h.n h.n2 h.n3
 
 -- A call that may be made: there is one of this number, and its slices are empty where it has none.
-pub record Ready (m : ListOrderedMultimap) (op : ℕ) (out out2 : List ℕ) : Type 0 where
-  pub linked : WellLinked m
+pub record Ready (op : ℕ) (out out2 : List ℕ) : Type 0 where
   pub known : op < 24
   pub no_slice : lends op ≡ false → length out ≡ 0
   pub no_second : lends_two op ≡ false → length out2 ≡ 0
@@ -81,6 +80,8 @@ pub record At (t₀ : Tape) (m₀ : ListOrderedMultimap) (p : Place) (t : Tape) 
 
 -- A call was made, from p to q: every run that stands at p stands at q now.
 pub record Onward (p : Place) (t : Tape) (m : ListOrderedMultimap) (q : Place) (t' : Tape) (m' : ListOrderedMultimap) : Type 0 where
+  pub within : Within q t'
+  pub same : Same t t'
   pub keeps : (t₀ : Tape) (m₀ : ListOrderedMultimap) → At t₀ m₀ p t m → At t₀ m₀ q t' m'
   pub onward : p.ran + 1 ≤ q.ran
 

@@ -4,9 +4,8 @@
 
 ghost use Rattle.std.specs.Prelude.{◌≡◌, length};
 ghost use Rattle.steps.specs.Call.{call_of, lends as lends_of};
-ghost use Rattle.steps.specs.Told.{Told};
 ghost use Rattle.multimap.specs.declared.ListOrderedMultimap.{ListOrderedMultimap};
-ghost use Rattle.multimap.specs.WellLinked.{WellLinked, linked};
+ghost use Rattle.multimap.specs.WellLinked.{CallsTold, WellLinked};
 ghost use Rattle.replay.specs.Place.{head_of, known_head, fits_at, Ready, Small, Past, Within, AllRan, Advanced};
 ghost use Rattle.replay.specs.Played.{Played};
 
@@ -115,8 +114,7 @@ fn after(p: Place, h: Head) -> Place
 impl Tape<'_> {
     // Runs all calls, one after the other, until the list does not go on.
     fn run(&mut self, map: &mut ListOrderedMultimap) -> u64
-        requires { WellLinked map.old }
-        ensures { AllRan self.old map.old self.new map.new result }
+        ensures { WellLinked map.old → AllRan self.old map.old self.new map.new result }
     {
         let mut p = Place {
             out: 0,
@@ -132,7 +130,7 @@ impl Tape<'_> {
 
     // Makes the next call, where the list goes on with one, and gives the place after it.
     fn advance(&mut self, map: &mut ListOrderedMultimap, p: Place) -> Option<Place>
-        requires { WellLinked map.old × Within p self.old }
+        requires { Within p self.old }
         ensures { Advanced p self.old map.old result self.new map.new }
     {
         let h = read_head(&self.calls[7 * p.ran..])?;
@@ -174,8 +172,8 @@ fn turn(
     marks: &[u8],
     ans: &mut [u64],
 )
-    requires { Ready map.old h.op out.old out2.old × (length ans.old ≡ 4) }
-    ensures { Told linked (call_of h.op h.poster h.k h.v out.old out2.old marks.now) map.old map.new out.new out2.new ans.new }
+    requires { Ready h.op out.old out2.old × (length ans.old ≡ 4) }
+    ensures { CallsTold (call_of h.op h.poster h.k h.v out.old out2.old marks.now) map.old map.new out.new out2.new ans.new }
 {
     let outcome = turn::call(map, h.op, h.poster, h.k, h.v, out, out2, marks);
     let mut told = [0u64; 4];

@@ -5,7 +5,8 @@ use Rattle.replay.proofs.replay.Goals as goal
 
 pub returns : goal.returns
 returns c =
-    let r = c.run.ensures.ran in
-    let s = c.run.ensures.same in
+    let d = c.run.ensures c.new-map.ensures.0 in
+    let r = d.ran in
+    let s = d.same in
     let k = played _ _ _ _ _ _ _ _ _ _ _ _ r c.new-map.ensures.0 c.new-map.ensures.1 in
     search rules
