@@ -129,6 +129,7 @@ impl Writer<'_> {
     }
 
     // Writes an answer, or the number of a refusal.
+    #[tactic(auto, using(crate::proofs::Decimals::decimal_long))]
     fn put_outcome<A: IntoAnswer>(&mut self, outcome: Result<A, Refusal>, counted: Counted)
         requires { self.old.at + max_printed ≤ length self.old.out.now }
         ensures wrote { Wrote self.old (Reply.text_of (text_with counted.entry) (answered A.answer outcome)) self.new }

@@ -11,6 +11,7 @@ pub(crate) struct Writer<'a> {
 }
 
 // Writes a number in base ten to the front of `digits`.
+#[tactic(auto, using(crate::proofs::Decimals::digits_decimal, crate::proofs::Decimals::few))]
 pub fn decimal(n: u64, digits: &mut [u8; 20]) -> &[u8]
     ensures { result.now ≡ Text.decimal n }
 {
@@ -19,6 +20,7 @@ pub fn decimal(n: u64, digits: &mut [u8; 20]) -> &[u8]
 }
 
 impl Writer<'_> {
+    #[tactic(auto, using(crate::proofs::Puts::put_copied))]
     pub(crate) fn put(&mut self, bytes: &[u8])
         requires { self.old.at + length bytes.now ≤ length self.old.out.now }
         ensures { Wrote self.old bytes.now self.new }
