@@ -59,13 +59,10 @@ put_over {was} {x} {out} {r} p h = p.written ∙ sets-eq x was 0 (omega arith) �
 
 -- ---- lines
 
-pub replied_as : {l l' : Line} (m : ListOrderedMultimap) {was out : List ℕ} {m' : ListOrderedMultimap} {n : ℕ} → Replies l m was out m' n → l ≡ l' → Replies l' m was out m' n
-replied_as m p e = rw e at p
-
 -- a line that is none prints so, and leaves the map
-pub replied_bad : (m : ListOrderedMultimap) {was out : List ℕ} {n : ℕ} → Prints was bad_text out n → Replies bad m was out m n
+pub replied_bad : {l : Line} (m : ListOrderedMultimap) {was out : List ℕ} {n : ℕ} → Prints was bad_text out n → bad ≡ l → Replies l m was out m n
 unfolding answer_of
-replied_bad m p = record { short = λ h. (p.said h).room; replied = λ wl. record { prints = p; state = refl; linked = wl; same = λ e. refl } }
+replied_bad m p e = rw (← e) (record { short = λ h. (p.said h).room; replied = λ wl. record { prints = p; state = refl; linked = wl; same = λ e. refl } })
 
 pub marks_short : (bytes : List ℕ) → length bytes ≤ 1100 → keeps (map mark_of bytes) ≡ marks_line bytes
 marks_short bytes h = rw (le-leb (length bytes) 1100 h)

@@ -25,7 +25,7 @@ pub fn answer_line(map: &mut ListOrderedMultimap, line: &[u8], out: &mut [u8]) -
 }
 
 // Makes the call that the line asks, and prints its answer.
-#[tactic(auto, using(crate::proofs::Lines::marks_rest))]
+#[tactic(auto, using(crate::proofs::Lines::marks_rest, line_calls::proofs::Calls::replied_bad))]
 fn ask(map: &mut ListOrderedMultimap, line: &[u8], out: &mut [u8]) -> usize
     ensures { Replies (Line.line_of line.now) map.old out.old out.new map.new result }
 {
