@@ -23,7 +23,7 @@ module _ {Map : Type 0} (M : Kind Map) where
     pub same : is_refused o.answer ≡ true → m' ≡ m
     pub packed : (a b : ℕ) → c ≡ pack_to a b → is_refused o.answer ≡ false → M.Packed m'
 
-  -- the calls of a list, from a map to a map, with their outcomes. Each function requires that its map is well-linked
+  -- the calls of a list, from a map to a map, with their outcomes. Each call promises its step of a well-linked map
   pub data Trace : List Call → Map → List Outcome → Map → Type 0 where
     stop : {m : Map} → Trace [] m [] m
     call : {c : Call} {cs : List Call} {m m' m'' : Map} {o : Outcome} {os : List Outcome}
