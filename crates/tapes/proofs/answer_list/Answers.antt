@@ -1,11 +1,11 @@
 -- `tapes::answer_list` meets its contract. Assumes nothing.
 use Prim.Native.Nat.{ℕ}
 use mathlib.Core.List.{List, ◌++◌}
-use mathlib.Core.Path.{sym, ap, ◌∙◌}
+use mathlib.Core.Path.{ap, ◌∙◌}
 use Rattle.tapes.specs.Parts.{left_after}
 use Rattle.tapes.specs.Printed.{parts_text}
-use Rattle.tapes.proofs.Holds.{kept_none, kept_join, kept_as}
-use Rattle.tapes.proofs.Lists.{no_list, none_left, one_list}
+use Rattle.tapes.proofs.Holds.{kept_join, kept_as}
+use Rattle.tapes.proofs.Lists.{one_list}
 use Rattle.tapes.proofs.answer_list.Goals as goal
 
 pub returns-then-name-text : goal.returns-then-name-text
@@ -18,14 +18,4 @@ returns-then-name-text c =
           kept_as (kept_join c.put.ensures rest.printed)
           (ap (λ (l : List ℕ). name ++ parts_text l) part.left ∙ one_list c.args.parts.now.left.now name part.part c.if-name-text.true);
       left = rest.left ∙ ap left_after part.left;
-    }
-
-pub returns-else-name-text : goal.returns-else-name-text
-returns-else-name-text c =
-    let s = c.args.parts.now.left.now in
-    let name = c.next_part-name.result.now in
-    let part = c.next_part-name.ensures in
-    record {
-      printed = kept_as (kept_none _ c.requires) (sym (no_list s name part.part c.if-name-text.false));
-      left = part.left ∙ none_left s name part.part c.if-name-text.false;
     }

