@@ -2,18 +2,19 @@
 
 #![tactic(auto)]
 
-ghost use Rattle.std.specs.Prelude.{◌≡◌, ltb};
+ghost use Rattle.std.specs.Prelude.{◌≡◌, ◌<◌, length, ltb};
 ghost use Rattle.steps.specs.State.{empty};
 ghost use Rattle.steps.specs.Step.{too_high, make_of};
 ghost use Rattle.steps.specs.Proper.{Allowed};
 ghost use Rattle.index.specs.Search.{search as searched};
+ghost use Rattle.links.specs.Places.{order};
 ghost use Rattle.links.specs.Stores.{at};
 ghost use Rattle.multimap.specs.Changes.{base_of};
-ghost use Rattle.multimap.specs.Map.{state_of};
+ghost use Rattle.multimap.specs.Map.{members_of, rounds_of, state_of};
 ghost use Rattle.multimap.specs.WellLinked.{WellLinked};
 
 use index::{Found, KeyPlace};
-use links::{Counts, Place};
+use links::{Counts, Place, Walk};
 use std::marker::Model;
 
 pub const MEMBERS: u16 = 256;
@@ -137,6 +138,21 @@ impl ListOrderedMultimap {
         ensures { result ≡ at self.now.next_index (base_of key) }
     {
         links::after(&self.next_index, base(key))
+    }
+
+    // Gives the places of the rounds, in order.
+    pub fn round_places(&self) -> Walk<'_, ValuePlace>
+        ensures places { result ≡ order (rounds_of self.now) }
+        ensures few { length result < 65536 }
+    {
+        links::along(&self.next_value, self.first_round(), self.rounds.len)
+    }
+
+    // Gives the places of the members, in order.
+    pub fn member_places(&self) -> Walk<'_, KeyPlace>
+        ensures { result ≡ order (members_of self.now) }
+    {
+        links::along(&self.next_key, self.first_member(), self.members.len)
     }
 
     // Gives the place of the member whose round stands at x.
