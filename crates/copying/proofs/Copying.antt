@@ -1,10 +1,10 @@
 -- A loop that copies along links to the front of a slice, whatever the arrays hold; and what is then written and answered. Assumes nothing.
 use Prim.Native.Nat.{ℕ, ◌+◌, ◌≤◌, ◌<◌}
-use mathlib.Core.Path.{◌≡◌, sym, ap, ◌∙◌}
-use mathlib.Core.List.{List, ◌++◌, map}
+use mathlib.Core.Path.{◌≡◌, refl, sym, ap, ◌∙◌}
+use mathlib.Core.List.{List, [], ◌∷◌, ◌++◌, map}
 use native.Mathlib.Omega.{arith}
 use borrow.Author.Tests.{lt-ltb, le-ltb}
-use lib.ListN.{length, set, take, drop, length-map}
+use lib.ListN.{length, get_or, set, take, drop, length-map, get_or-map}
 use lib.Seq.{length-take-le}
 use Rattle.std.proofs.lemmas.List.{append-nil}
 use Rattle.std.proofs.Math.ListN.{drop_of_length-le}
@@ -12,33 +12,34 @@ use Rattle.steps.specs.Call.{refused, count}
 use Rattle.steps.specs.Step.{write, over}
 use Rattle.links.specs.Route.{walk}
 use Rattle.links.proofs.Lists.{length_walk}
-use Rattle.multimap.proofs.Copies.{Copied, beyond, walk_way, copied_more, copied_all, copied_long}
+use Rattle.links.proofs.Walks.{Passed, passed_none, passed_all, passed_one, more, place_is}
+use Rattle.multimap.proofs.Copies.{written, written_one, written_all}
 use Rattle.copying.specs.Slices.{along, writing}
 
--- after i turns of n from the place s on: f of each place met is written, and the walk is at q
-pub record Copying {P : Type 0} (f : P → ℕ) (next : P → P) (s : P) (n : ℕ) (out₀ : List ℕ) (i : ℕ) (q : P) (out : List ℕ) : Type 0 where
-  pub fits : n ≤ length out₀
-  pub copied : Copied f (walk next s n) (beyond next s n) out₀ i q out
+-- of the places xs the first i are met, and f of each is written; ws are still to come
+pub record Copying {P : Type 0} (f : P → ℕ) (xs : List P) (out₀ : List ℕ) (i : ℕ) (ws : List P) (out : List ℕ) : Type 0 where
+  pub fits : length xs ≤ length out₀
+  pub passed : Passed xs i ws
+  pub front : out ≡ written (map f xs) out₀ i
 
-module _ {P : Type 0} {f : P → ℕ} {next : P → P} {s : P} {n : ℕ} {out₀ : List ℕ} {i : ℕ} {q : P} {out : List ℕ} (t : Copying f next s n out₀ i q out) where
-  places : length (walk next s n) ≡ n
-  places = length_walk next s n
+pub copying_none : {P : Type 0} {f : P → ℕ} {xs ws : List P} {out : List ℕ} → ws ≡ xs → length xs ≤ length out → Copying f xs out 0 ws out
+copying_none e h = record { fits = h; passed = passed_none e; front = refl }
 
-  pub still_long : length out ≡ length out₀
-  still_long = copied_long t.copied (omega (arith, places, t.fits))
+module _ {P : Type 0} {f : P → ℕ} {xs : List P} {out₀ : List ℕ} {i : ℕ} {ws : List P} {out : List ℕ} (t : Copying f xs out₀ i ws out) where
+  pub all_copied : ws ≡ [] → out ≡ over (map f xs) out₀
+  all_copied e = t.front ∙ written_all (map f xs) out₀ i (passed_all t.passed e ∙ sym (length-map xs f))
 
-  pub slot : i < n → i < length out
-  slot h = omega (arith, still_long, t.fits)
-
-  pub one_copied : i < n → {v : ℕ} {q' : P} → v ≡ f q → q' ≡ next q → Copying f next s n out₀ (i + 1) q' (set out i v)
-  one_copied h e j =
+  pub one_copied : {x : P} {ws' : List P} → ws ≡ x ∷ ws' → {j i' v : ℕ} → j ≡ i → i' ≡ i + 1 → v ≡ f x → Copying f xs out₀ i' ws' (set out j v)
+  one_copied {x} e {v = v} z z' h =
+      let less : i < length xs = more t.passed e in
+      let v_is : v ≡ get_or (map f xs) i (f x) = h ∙ ap f (place_is t.passed e x) ∙ sym (get_or-map f xs i x) in
       record {
         fits = t.fits;
-        copied = rw (e, j) (copied_more t.copied (omega (arith, places, t.fits)) (walk_way next s n) (omega (arith, places)));
+        passed = passed_one t.passed e z';
+        front =
+            rw (z, z', t.front, v_is)
+            (written_one (map f xs) out₀ i (f x) (omega (arith, length-map xs f)) (omega (arith, t.fits)));
       }
-
-  pub all_copied : n ≤ i → out ≡ over (map f (walk next s n)) out₀
-  all_copied h = copied_all t.copied (omega (arith, places))
 
 -- what covers the front of a slice covers its first n
 pub over_front : (l : List ℕ) (n : ℕ) (out : List ℕ) {front : List ℕ} → n ≤ length out → length l ≡ n → front ≡ over l (take n out) → front ++ drop n out ≡ over l out

@@ -1,12 +1,12 @@
 -- What each call that only reads does of a well-linked map. Assumes nothing.
 use Prim.Native.Nat.{ℕ, ◌≤◌, ◌<◌}
-use mathlib.Core.Path.{◌≡◌, refl, ◌∙◌}
+use mathlib.Core.Path.{◌≡◌, refl, sym, ◌∙◌}
 use mathlib.Core.Logic.{◌⊎◌, ⊎_elim}
 use mathlib.Core.Bool.{Bool, true, false, cond, ◌||◌, or-true}
 use mathlib.Core.List.{List, map}
 use mathlib.Core.Option.{some, none}
 use borrow.Author.Tests.{lt-ltb, le-ltb}
-use lib.ListN.{length, take}
+use lib.ListN.{length, length-map, take}
 use Rattle.steps.specs.State as St
 use Rattle.steps.specs.State.{State}
 use Rattle.steps.specs.Call as C
@@ -14,9 +14,9 @@ use Rattle.steps.specs.Call.{Call, Answer, Outcome, refused, count}
 use Rattle.steps.specs.Step.{step, checks, act, settle, refusing, say, write, first, short, over, onto, entry_of}
 use Rattle.steps.specs.Trace.{Does}
 use Rattle.steps.proofs.Doing.{does_stay}
-use Rattle.links.specs.Route.{walk}
+use Rattle.links.specs.Places.{order}
 use Rattle.multimap.specs.declared.ListOrderedMultimap.{ListOrderedMultimap}
-use Rattle.multimap.specs.Map.{at, pairs, state_of}
+use Rattle.multimap.specs.Map.{at, pair_at, pairs, rounds_of, state_of}
 use Rattle.multimap.specs.WellLinked.{WellLinked, linked}
 use Rattle.multimap.proofs.Stores.{pair_keys, pair_values, length_pairs, length_members}
 use Rattle.copying.specs.Slices.{along, writing}
@@ -99,24 +99,24 @@ module _ (α : ListOrderedMultimap) (g : WellLinked α) where
   unfolding step checks act
   does_taken out₀ {n} many {out} e = does_stay linked (C.taken out₀) α (write (count n) out) refl g (rw (many, e))
 
-  module _ (ks vs : List ℕ) where
-    pub does_iter_short : (length ks < α.rounds.len) ⊎ (length vs < α.rounds.len) → Does linked (C.iter ks vs) α (refusing (C.iter ks vs) 3) α
+  module _ (ks vs : List ℕ) {n : ℕ} (many : n ≡ length (order (rounds_of α))) where
+    held : length (pairs α) ≡ n
+    held = length-map (order (rounds_of α)) (pair_at α) ∙ sym many
+
+    pub does_iter_short : (length ks < n) ⊎ (length vs < n) → Does linked (C.iter ks vs) α (refusing (C.iter ks vs) 3) α
     does_iter_short h =
         does_stay linked (C.iter ks vs) α (refusing (C.iter ks vs) 3) refl g
         (step_iter_short ks vs (state_of α)
-        (⊎_elim (λ (l : length ks < α.rounds.len). rw (lt-ltb (length ks) (length (pairs α)) (rw (length_pairs α) l)))
-        (λ (l : length vs < α.rounds.len). rw (lt-ltb (length vs) (length (pairs α)) (rw (length_pairs α) l)) (or-true (short ks (pairs α)))) h))
+        (⊎_elim (λ (l : length ks < n). rw (lt-ltb (length ks) (length (pairs α)) (rw held l)))
+        (λ (l : length vs < n). rw (lt-ltb (length vs) (length (pairs α)) (rw held l)) (or-true (short ks (pairs α)))) h))
 
-    -- copied from the first place on
-    module _ (keys_fit : α.rounds.len ≤ length ks) (values_fit : α.rounds.len ≤ length vs) {q : ℕ} (i : q ≡ at α.next_value 1024) {ks' vs' : List ℕ} where
-      pub does_iter : ks' ≡ over (map (λ x. at α.keys (at α.key_index x)) (walk (at α.next_value) q α.rounds.len)) ks
-          → vs' ≡ over (map (at α.values) (walk (at α.next_value) q α.rounds.len)) vs
-          → Does linked (C.iter ks vs) α (pairs_written (count α.rounds.len) ks' vs') α
-      does_iter e f =
-          let xs : List ℕ = walk (at α.next_value) q α.rounds.len in
-          let ks_are : map (λ x. at α.keys (at α.key_index x)) xs ≡ map (λ p. p.key) (pairs α) = rw i (pair_keys α) in
-          let vs_are : map (at α.values) xs ≡ map (λ p. p.value) (pairs α) = rw i (pair_values α) in
-          does_stay linked (C.iter ks vs) α (pairs_written (count α.rounds.len) ks' vs') refl g
-          (step_iter ks vs (state_of α)
-          (rw (le-ltb (length ks) (length (pairs α)) (rw (length_pairs α) keys_fit)) (le-ltb (length vs) (length (pairs α)) (rw (length_pairs α) values_fit)))
-          ∙ rw (e, f, ks_are, vs_are, length_pairs α))
+    -- copied from the rounds' places
+    pub does_iter : n ≤ length ks → n ≤ length vs → {ks' vs' : List ℕ}
+        → ks' ≡ over (map (λ x. at α.keys (at α.key_index x)) (order (rounds_of α))) ks
+        → vs' ≡ over (map (at α.values) (order (rounds_of α))) vs
+        → Does linked (C.iter ks vs) α (pairs_written (count n) ks' vs') α
+    does_iter keys_fit values_fit {ks'} {vs'} e f =
+        does_stay linked (C.iter ks vs) α (pairs_written (count n) ks' vs') refl g
+        (step_iter ks vs (state_of α)
+        (rw (le-ltb (length ks) (length (pairs α)) (rw held keys_fit)) (le-ltb (length vs) (length (pairs α)) (rw held values_fit)))
+        ∙ rw (e, f, pair_keys α, pair_values α, held))

@@ -102,16 +102,15 @@ pub fn iter(
 ) -> Result<usize, Refusal>
     ensures { Reads (C.iter members.old rounds.old) (pairs_written (answered C.count result) members.new rounds.new) map.now }
 {
-    let end = map.rounds.len as usize;
+    let places = map.round_places();
+    let end = places.len();
     if members.len() < end || rounds.len() < end {
         return Err(Refusal::Short);
     }
-    let mut x = map.first_round();
-    // Goes by an index, since a proof knows nothing of what is written through a `zip` of `iter_mut`.
-    for i in 0..end {
+    // Goes by the rank, since a proof knows nothing of what is written through a `zip` of `iter_mut`.
+    for (i, x) in places.enumerate() {
         members[i] = map.member(map.owner(x));
         rounds[i] = map.round(x);
-        x = links::after(&map.next_value, x);
     }
     Ok(end)
 }
