@@ -1,19 +1,18 @@
 -- The pairs of an image written one after the other: `Running` before the first pair, from one pair to the next, and after the last; and the
 -- sizes, which are written before them. Assumes nothing.
-use Prim.Native.Nat.{ℕ, zero, suc, ◌+◌, ◌*◌, ◌-◌, ◌≤◌, ◌<◌}
+use Prim.Native.Nat.{ℕ, zero, suc, ◌+◌, ◌*◌, ◌≤◌, ◌<◌}
 use mathlib.Core.Path.{◌≡◌, refl, sym, ap, ◌∙◌}
 use mathlib.Core.List.{List, [], ◌∷◌, ◌++◌, map}
 use native.Mathlib.Omega.{arith}
-use native.Mathlib.Numerals.{add-one}
 use lib.ListN.{length, get_or, set, take, drop, length-map, length-append, length-drop, take-append-drop, get_or-map}
 use lib.Seq.{sets, length-sets, sets-eq, take-set-le, drop-set-lt, drop-set-add}
-use lib.Seq.{slice, slice_empty, drop-cons, take-add, take_at, take-nil, take-length, drop-drop, length-take-le}
+use lib.Seq.{slice, slice_empty, take-add, take_at, take-nil, take-length, drop-drop, length-take-le}
 use Rattle.fnv.specs.Fnv.{bytes}
 use Rattle.steps.specs.Step.{over}
 use Rattle.image.specs.Bytes.{layout}
-use Rattle.links.specs.Route.{walk}
 use Rattle.links.specs.Stores.{at}
 use Rattle.links.proofs.Lists.{length_walk}
+use Rattle.links.proofs.Walks.{Passed, passed_one, more, place_is}
 use Rattle.image.specs.Running.{Running, places_along}
 use Rattle.image.proofs.Writes.{length_bytes}
 use Rattle.image.proofs.Layouts.{rounds_size_in, members_size_in, member_in, round_in, length_layout}
@@ -78,12 +77,11 @@ module _ (keys values owners next : List ℕ) (n m : ℕ) where
 
   -- ---- before the first pair: only the sizes stand there
 
-  pub running_start : (x : ℕ) → x ≡ at next 1024 → (out : List ℕ) → take 8 out ≡ take 8 image → Running next image out n 0 x 8 base out
-  running_start x e out sizes =
-      let z : n - 0 ≡ n = omega arith in
+  pub running_start : {xs : List ℕ} → xs ≡ places → (out : List ℕ) → take 8 out ≡ take 8 image → Running next image out n 0 xs 8 base out
+  running_start e out sizes =
       record {
-        some = omega arith;
-        left = rw (e, z);
+        some = omega (arith, ap length e, places_long);
+        left = e;
         first_is = omega arith;
         second_is = omega arith;
         members = sizes;
@@ -92,40 +90,36 @@ module _ (keys values owners next : List ℕ) (n m : ℕ) where
         long = refl;
       }
 
-  module _ {was : List ℕ} {i x first second : ℕ} {out : List ℕ} (r : Running next image was n i x first second out) where
+  module _ {was : List ℕ} {i : ℕ} {xs : List ℕ} {first second : ℕ} {out : List ℕ} (r : Running next image was n i xs first second out) where
     -- ---- from one pair to the next
 
-    module _ (room : 8 + 16 * n ≤ length was) (more : i < n) where
-      here : x ∷ walk (at next) (at next x) (n - (i + 1)) ≡ get_or places i 0 ∷ drop (suc i) places
-      here =
-          let e : n - i ≡ suc (n - (i + 1)) = omega arith in
-          rw e at r.left ∙ drop-cons places i 0 (omega (arith, places_long))
+    module _ (room : 8 + 16 * n ≤ length was) {x : ℕ} {xs' : List ℕ} (e : xs ≡ x ∷ xs') where
+      passed : Passed places i xs
+      passed = record { many = r.some ∙ sym places_long; left = r.left }
+
+      less : i < n
+      less = omega (arith, more passed e, places_long)
 
       x_is : x ≡ get_or places i 0
-      x_is = cc here
-
-      left_on : walk (at next) (at next x) (n - (i + 1)) ≡ drop (i + 1) places
-      left_on =
-          let e : walk (at next) (at next x) (n - (i + 1)) ≡ drop (suc i) places = cc here in
-          e ∙ ap (λ (k : ℕ). drop k places) (sym (add-one i))
+      x_is = place_is passed e 0
 
       -- the bytes of the pair
       member_is : take 8 (drop first image) ≡ bytes 8 (at keys (at owners x))
       member_is =
-          rw r.first_is (member_in n m ks vs ks_long i (at keys (at owners 0)) more)
+          rw r.first_is (member_in n m ks vs ks_long i (at keys (at owners 0)) less)
           ∙ ap (bytes 8) (get_or-map (λ x. at keys (at owners x)) places i 0 ∙ ap (λ (q : ℕ). at keys (at owners q)) (sym x_is))
 
       round_is : take 8 (drop (8 * i) (drop base image)) ≡ bytes 8 (at values x)
       round_is =
-          rw (drop-drop (8 * i) base image) (round_in n m ks vs ks_long vs_long i (at values 0) more)
+          rw (drop-drop (8 * i) base image) (round_in n m ks vs ks_long vs_long i (at values 0) less)
           ∙ ap (bytes 8) (get_or-map (at values) places i 0 ∙ ap (at values) (sym x_is))
 
-      module _ (member round x' : ℕ) (em : member ≡ at keys (at owners x)) (er : round ≡ at values x) (ex : x' ≡ at next x)
+      module _ (member round : ℕ) (em : member ≡ at keys (at owners x)) (er : round ≡ at values x)
           (a b : List ℕ) (ea : a ≡ sets out first (bytes 8 member)) (eb : b ≡ sets a second (bytes 8 round)) where
         members_on : take (first + 8) b ≡ take (first + 8) image
         members_on =
-            ap (take (first + 8)) eb ∙ take_sets (bytes 8 round) a (first + 8) second (omega arith) ∙ ap (take (first + 8)) ea
-            ∙ agrees_on out image (bytes 8 member) first 8 (omega arith) (length_bytes 8 member) (member_is ∙ ap (bytes 8) (sym em)) r.members
+            ap (take (first + 8)) eb ∙ take_sets (bytes 8 round) a (first + 8) second (omega (arith, less)) ∙ ap (take (first + 8)) ea
+            ∙ agrees_on out image (bytes 8 member) first 8 (omega (arith, less)) (length_bytes 8 member) (member_is ∙ ap (bytes 8) (sym em)) r.members
 
         rounds_on : slice base (second + 8) b ≡ slice base (second + 8) image
         rounds_on =
@@ -133,36 +127,38 @@ module _ (keys values owners next : List ℕ) (n m : ℕ) where
             let rest : drop base b ≡ sets (drop base out) (8 * i) (bytes 8 round) =
             ap (drop base) (rw r.second_is at eb) ∙ drop_sets_add (bytes 8 round) a base (8 * i)
             ∙ ap (λ (l : List ℕ). sets l (8 * i) (bytes 8 round))
-            (ap (drop base) ea ∙ drop_sets (bytes 8 member) out base first (omega (arith, length_bytes 8 member))) in
+            (ap (drop base) ea ∙ drop_sets (bytes 8 member) out base first (omega (arith, less, length_bytes 8 member))) in
             let before : take (8 * i) (drop base out) ≡ take (8 * i) (drop base image) =
             sym (slice_is base (8 * i) out) ∙ rw r.second_is at r.rounds ∙ slice_is base (8 * i) image in
             rw (e, slice_is base (8 * i + 8) b, slice_is base (8 * i + 8) image, rest)
-            (agrees_on (drop base out) (drop base image) (bytes 8 round) (8 * i) 8 (omega (arith, length-drop base out, r.long)) (length_bytes 8 round)
+            (agrees_on (drop base out) (drop base image) (bytes 8 round) (8 * i) 8 (omega (arith, less, length-drop base out, r.long)) (length_bytes 8 round)
             (round_is ∙ ap (bytes 8) (sym er)) before)
 
         past_on : drop (length image) b ≡ drop (length image) was
         past_on =
-            ap (drop (length image)) eb ∙ drop_sets (bytes 8 round) a (length image) second (omega (arith, size, length_bytes 8 round))
-            ∙ ap (drop (length image)) ea ∙ drop_sets (bytes 8 member) out (length image) first (omega (arith, size, length_bytes 8 member))
+            ap (drop (length image)) eb ∙ drop_sets (bytes 8 round) a (length image) second (omega (arith, less, size, length_bytes 8 round))
+            ∙ ap (drop (length image)) ea ∙ drop_sets (bytes 8 member) out (length image) first (omega (arith, less, size, length_bytes 8 member))
             ∙ r.past
 
-        pub running_one : Running next image was n (i + 1) x' (first + 8) (second + 8) b
-        running_one =
-            record {
-              some = omega arith;
-              left = ap (λ (q : ℕ). walk (at next) q (n - (i + 1))) ex ∙ left_on;
+        pub running_one : {i' : ℕ} → i' ≡ i + 1 → Running next image was n i' xs' (first + 8) (second + 8) b
+        running_one z =
+            rw z
+            (record {
+              some = omega (arith, r.some, ap length e);
+              left = (passed_one passed e refl).left;
               first_is = omega arith;
               second_is = omega arith;
               members = members_on;
               rounds = rounds_on;
               past = past_on;
               long = ap length eb ∙ length-sets a second (bytes 8 round) ∙ ap length ea ∙ length-sets out first (bytes 8 member) ∙ r.long;
-            }
+            })
 
     -- ---- after the last pair
 
-    pub running_all : n ≤ i → out ≡ over image was
-    running_all h =
+    pub running_all : xs ≡ [] → out ≡ over image was
+    running_all none =
+        let h : i ≡ n = omega (arith, r.some, ap length none) in
         let f : first ≡ base = omega arith in
         let g : second ≡ base + 8 * n = omega arith in
         let e : length image ≡ base + 8 * n = omega (arith, size) in

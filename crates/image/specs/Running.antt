@@ -1,5 +1,5 @@
 -- What holds before each pair of an image is written.
-use Rattle.std.specs.Prelude.{ℕ, ◌+◌, ◌*◌, ◌-◌, ◌≤◌, ◌≡◌, List, map, length, take, drop}
+use Rattle.std.specs.Prelude.{ℕ, ◌+◌, ◌*◌, ◌≡◌, List, map, length, take, drop}
 use Rattle.std.proofs.Math.Seq.{slice}
 use Rattle.links.specs.Route.{walk}
 use Rattle.links.specs.Stores.{at}
@@ -18,12 +18,12 @@ image_along keys values owners next n m = layout n m (map (λ x. at keys (at own
 abbrev pub image_in : ListOrderedMultimap → List ℕ
 image_in m = image_along m.keys m.values m.key_index m.next_value m.rounds.len m.members.len
 
--- before the i-th of n pairs, from 0, is written to `out`: from x on the links lead along the pairs that are left; where its member and its
--- round go; that what stands before them, the sizes with the first array and then the second array, is as in the finished image; and that what
--- stands past the image is as it was
-pub record Running (next image was : List ℕ) (n i x first second : ℕ) (out : List ℕ) : Type 0 where
-  pub some : i ≤ n
-  pub left : walk (at next) x (n - i) ≡ drop i (places_along next n)
+-- before the i-th of n pairs, from 0, is written to `out`: the places that the walk has left, xs, are those of the pairs that are left; where
+-- its member and its round go; that what stands before them, the sizes with the first array and then the second array, is as in the finished
+-- image; and that what stands past the image is as it was
+pub record Running (next image was : List ℕ) (n i : ℕ) (xs : List ℕ) (first second : ℕ) (out : List ℕ) : Type 0 where
+  pub some : i + length xs ≡ n
+  pub left : xs ≡ drop i (places_along next n)
   pub first_is : first ≡ 8 + 8 * i
   pub second_is : second ≡ 8 + 8 * n + 8 * i
   pub members : take first out ≡ take first image

@@ -64,13 +64,11 @@ fn put_along(map: &ListOrderedMultimap, out: &mut [u8])
 {
     put(out, 0, &u32::from(map.rounds.len).to_le_bytes());
     put(out, 4, &u32::from(map.members.len).to_le_bytes());
-    let mut x = map.first_round();
     let mut first = 8;
     let mut second = 8 + 8 * map.rounds.len as usize;
-    for _ in 0..map.rounds.len {
+    for x in map.round_places() {
         put(out, first, &map.member(map.owner(x)).to_le_bytes());
         put(out, second, &map.round(x).to_le_bytes());
-        x = links::after(&map.next_value, x);
         first += 8;
         second += 8;
     }
