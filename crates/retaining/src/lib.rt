@@ -44,6 +44,7 @@ fn are_marks(marks: &[u8]) -> bool
 fn thin(map: &mut ListOrderedMultimap, marks: &[u8])
     ensures { Thinned marks.now (at map.old.next_value 1024) map.old map.new }
 {
+    // Goes along the links by hand, since it changes them as it goes: an iterator along them would hold the map lent.
     // Reads the first place as the walk reads the next one: with `first_round` here the search does not prove a turn.
     let mut x = links::after(&map.next_value, ValuePlace::new(ROUNDS));
     for &mark in &marks[..past_last_zero(marks)] {
