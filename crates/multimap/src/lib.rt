@@ -150,7 +150,8 @@ impl ListOrderedMultimap {
 
     // Gives the places of the members, in order.
     pub fn member_places(&self) -> Walk<'_, KeyPlace>
-        ensures { result ≡ order (members_of self.now) }
+        ensures places { result ≡ order (members_of self.now) }
+        ensures few { length result < 65536 }
     {
         links::along(&self.next_key, self.first_member(), self.members.len)
     }

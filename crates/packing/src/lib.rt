@@ -141,12 +141,9 @@ fn pack(map: &mut ListOrderedMultimap)
 fn copy_members(map: &ListOrderedMultimap, numbers: &mut [u64], ranks: &mut [KeyPlace; 256])
     ensures { let ks : List ℕ = listed map.now.next_key 256 map.now.members.len in Distinct ks 256 → length numbers.old ≡ map.now.members.len → MembersCopied map.now.keys ks numbers.new ranks.new }
 {
-    let mut x = map.first_member();
-    // Goes along the links, and i is the rank that is written.
-    for i in 0..map.members.len {
-        links::put(numbers, i as usize, map.member(x));
-        links::put(ranks, x.index(), KeyPlace::new(i));
-        x = links::after(&map.next_key, x);
+    for (rank, x) in map.member_places().enumerate() {
+        links::put(numbers, rank, map.member(x));
+        links::put(ranks, x.index(), KeyPlace::new(rank as u16));
     }
 }
 
@@ -159,12 +156,9 @@ fn copy_rounds(
 )
     ensures { let vs : List ℕ = listed map.now.next_value 1024 map.now.rounds.len in length owners.old ≡ map.now.rounds.len → length scores.old ≡ map.now.rounds.len → RoundsCopied map.now.values map.now.key_index ranks.now vs owners.new scores.new }
 {
-    let mut x = map.first_round();
-    // Goes along the links, and i is where it writes in both arrays.
-    for i in 0..map.rounds.len as usize {
+    for (i, x) in map.round_places().enumerate() {
         links::put(owners, i, links::after(ranks, map.owner(x)));
         links::put(scores, i, map.round(x));
-        x = links::after(&map.next_value, x);
     }
 }
 

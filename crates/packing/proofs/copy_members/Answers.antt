@@ -1,23 +1,33 @@
 -- `packing::copy_members` meets its contract, by the laws of proofs/Copying.antt. Assumes nothing.
+use mathlib.Core.Path.{sym, ap, ◌∙◌}
 use native.Mathlib.Omega.{arith}
-use Rattle.packing.proofs.Copying.{long, one_listed, all_listed, place_is, one_ranked}
+use Rattle.std.proofs.Common.{rules}
+use Rattle.std.specs.Iterator.Adapters.{enumerate_source, enumerate_count}
+use Rattle.links.proofs.Walks.{passed_none, passed_one, passed_all}
+use Rattle.packing.proofs.Copying.{long, none_listed, one_listed, all_listed, none_ranked, one_ranked}
 use Rattle.packing.proofs.copy_members.Goals as goal
 
-pub loop-i-preserved : goal.loop-i-preserved
-loop-i-preserved c =
-    let inv = c.loop-i.invariant in
-    let m = c.args.map.now in (
-      one_listed inv.0 c.loop-i-test.true c.member.ensures c.put.ensures c.after-x.ensures,
-      λ n d.
-          one_ranked (inv.1 n d) d (omega (arith, long m.next_key 256 m.members.len)) (place_is inv.0 n c.loop-i-test.true) (cc),
+pub loop-rank-init : goal.loop-rank-init
+loop-rank-init c =
+    let zero = ap enumerate_count c.into_iter-rank-iterator.ensures.into_iter_gives ∙ c.enumerate-rank-items.ensures.count in
+    let all = ap enumerate_source c.into_iter-rank-iterator.ensures.into_iter_gives ∙ c.enumerate-rank-items.ensures.source ∙ c.member_places.ensures.places in (
+      rw zero (passed_none all),
+      none_listed zero all,
+      λ n d. none_ranked zero (search rules),
+    )
+
+pub loop-rank-preserved : goal.loop-rank-preserved
+loop-rank-preserved c =
+    let inv = c.loop-rank.invariant in
+    let turn = c.in-Some.ensures.steps in (
+      passed_one inv.0 turn.0 turn.2,
+      one_listed inv.1 turn.0 turn.1 turn.2 c.member.ensures c.put.ensures,
+      λ n d. one_ranked inv.0 (inv.2 n d) d turn.0 turn.1 turn.2 (cc),
     )
 
 pub returns : goal.returns
 returns c =
     λ d n.
-    let inv = c.loop-i.invariant in
-    let m = c.args.map.now in
-    record {
-      number = all_listed inv.0 c.loop-i-test.false n;
-      rank = λ i h. (inv.1 n d).rank i (omega (arith, long m.next_key 256 m.members.len));
-    }
+    let inv = c.loop-rank.invariant in
+    let ended = c.in-None.ensures.steps.0.0 in
+    record { number = all_listed inv.1 ended (n ∙ sym (long c.args.map.now.next_key 256 c.args.map.now.members.len)); rank = λ i h. (inv.2 n d).rank i (omega (arith, passed_all inv.0 ended)) }

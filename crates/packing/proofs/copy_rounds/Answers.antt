@@ -1,21 +1,28 @@
 -- `packing::copy_rounds` meets its contract, by the laws of proofs/Copying.antt. Assumes nothing.
-use mathlib.Core.Path.{ap, ◌∙◌}
+use mathlib.Core.Path.{sym, ap, ◌∙◌}
+use Rattle.std.specs.Iterator.Adapters.{enumerate_source, enumerate_count}
 use Rattle.multimap.specs.Map.{at}
-use Rattle.packing.proofs.Copying.{one_listed, all_listed}
+use Rattle.packing.proofs.Copying.{long, none_listed, one_listed, all_listed}
 use Rattle.packing.proofs.copy_rounds.Goals as goal
+
+pub loop-i-init : goal.loop-i-init
+loop-i-init c =
+    let zero = ap enumerate_count c.into_iter-i-iterator.ensures.into_iter_gives ∙ c.enumerate-i-items.ensures.count in
+    let all = ap enumerate_source c.into_iter-i-iterator.ensures.into_iter_gives ∙ c.enumerate-i-items.ensures.source ∙ c.round_places.ensures.places in
+    (none_listed zero all, none_listed zero all)
 
 pub loop-i-preserved : goal.loop-i-preserved
 loop-i-preserved c =
-    let inv = c.loop-i.invariant in (
-      one_listed inv.0 c.loop-i-test.true (c.after.ensures ∙ ap (at c.args.ranks.now) c.owner.ensures) c.put.ensures c.after-x.ensures,
-      one_listed inv.1 c.loop-i-test.true c.round.ensures c.put-in-loop-i.ensures c.after-x.ensures,
+    let inv = c.loop-i.invariant in
+    let turn = c.in-Some.ensures.steps in (
+      one_listed inv.0 turn.0 turn.1 turn.2 (c.after.ensures ∙ ap (at c.args.ranks.now) c.owner.ensures) c.put.ensures,
+      one_listed inv.1 turn.0 turn.1 turn.2 c.round.ensures c.put-in-loop-i.ensures,
     )
 
 pub returns : goal.returns
 returns c =
     λ o s.
     let inv = c.loop-i.invariant in
-    record {
-      owner = all_listed inv.0 c.loop-i-test.false o;
-      score = all_listed inv.1 c.loop-i-test.false s;
-    }
+    let ended = c.in-None.ensures.steps.0.0 in
+    let many = sym (long c.args.map.now.next_value 1024 c.args.map.now.rounds.len) in
+    record { owner = all_listed inv.0 ended (o ∙ many); score = all_listed inv.1 ended (s ∙ many) }
