@@ -1,6 +1,6 @@
 -- The members' chains, walked along the list of rounds, a round a turn: the chain of a member place holds exactly if the rest of it does,
 -- from the last cell so far. Assumes nothing.
-use Prim.Native.Nat.{ℕ, ◌+◌, ◌-◌, ◌≤◌, ◌<◌}
+use Prim.Native.Nat.{ℕ, ◌+◌, ◌≤◌, ◌<◌}
 use mathlib.Core.Path.{◌≡◌, sym, ap, ◌∙◌, subst}
 use mathlib.Core.Logic.{◌⊎◌, inl, inr, ◌≢◌, ⊎_elim}
 use mathlib.Core.Bool.{Bool, false}
@@ -11,13 +11,12 @@ use lib.Dec.{eqb}
 use lib.ListN.{length, get_or, set, length-set, get_or-eq_default}
 use lib.Seq.{get_or-set_same, get_or-set_other}
 use Rattle.std.proofs.lemmas.List.{get_or_default}
-use Rattle.links.specs.Route.{tally, walk, Route}
+use Rattle.links.specs.Route.{tally, Route}
 use Rattle.links.specs.Links.{record_of}
 use Rattle.links.proofs.Routes.{same_or_not, tally_same, tally_other, length_keep}
 use Rattle.index.proofs.Agree.{true_false}
 use Rattle.well_linked.specs.declared.Chain.{Chain}
 use Rattle.well_linked.specs.Chains.{Used, Begun, Chains, Followed, chain_at}
-use Rattle.well_linked.proofs.Marking.{walk_more}
 
 -- of the chain of k, whose rounds are `own`: so far it is a, and the rounds in `rest` are still to come
 pub record Part (next prev : ℕ → ℕ) (k : ℕ) (own rest : List ℕ) (a : Chain) : Type 0 where
@@ -63,10 +62,6 @@ followed {key} {next} {prev} {all} {cs} {rest} c e =
   where
     closed : (k : ℕ) → k < 256 → Part next prev k (record_of key k all) [] (chain_at cs k)
     closed k l = rw (ap (record_of key k) e) at (c.parts k l)
-
--- the next round is x
-pub next_round : (n : ℕ → ℕ) (here : ℕ) {x len i : ℕ} → x ≡ n here → i < len → walk n (n here) (len - i) ≡ x ∷ walk n (n x) (len - (i + 1))
-next_round n here {x} {len} {i} e h = rw e (walk_more n (n here) len i h)
 
 -- x is the next round, and k its member place
 module _ {key next prev : ℕ → ℕ} {all : List ℕ} {used : List Bool} {cs : List Chain} {rest xs : List ℕ} {x k : ℕ}

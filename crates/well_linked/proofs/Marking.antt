@@ -1,28 +1,28 @@
 -- A walk that marks places, a turn at a time: what is marked and what is still to come are together what was marked and the whole walk.
 -- Assumes nothing.
-use Prim.Native.Nat.{ℕ, suc, ◌+◌, ◌-◌, ◌≤◌, ◌<◌}
+use Prim.Native.Nat.{ℕ, zero, suc, ◌+◌, ◌≤◌, ◌<◌}
 use mathlib.Core.Path.{◌≡◌, refl, sym, ap, ◌∙◌}
 use mathlib.Core.Logic.{◌≢◌, ⊎_elim}
 use mathlib.Core.Bool.{Bool, true, false}
-use mathlib.Core.List.{List, [], ◌∷◌}
+use mathlib.Core.List.{List, [], ◌∷◌, map}
 use native.Mathlib.Omega.{arith}
 use native.Mathlib.Nat.{lt_of_not-le}
 use lib.ListN.{length, get_or, set, length-set}
 use lib.Seq.{get_or-set_same, get_or-set_other}
 use Rattle.links.specs.Route.{bit, tally, walk}
+use Rattle.links.specs.Stores.{at_in}
 use Rattle.links.proofs.Routes.{same_or_not, tally_same, tally_hit, tally_other}
-use Rattle.well_linked.specs.Marks.{marks, Marks}
+use Rattle.well_linked.specs.Marks.{place_at, marks, Marks}
 
 bit_le : (b : Bool) → bit b ≤ 1
 bit_le true = omega arith
 bit_le false = omega arith
 
--- the walk, place by place
-pub walk_more : (n : ℕ → ℕ) (s many i : ℕ) → i < many → walk n s (many - i) ≡ s ∷ walk n (n s) (many - (i + 1))
-walk_more n s many i h = let e : many - i ≡ suc (many - (i + 1)) = omega arith in ap (walk n s) e
-
-pub walk_done : (n : ℕ → ℕ) (s many i : ℕ) → many ≤ i → walk n s (many - i) ≡ []
-walk_done n s many i h = let e : many - i ≡ 0 = omega arith in ap (walk n s) e
+-- the numbers of the places along links
+pub walk_numbers : {P : Type 0} (number : P → ℕ) (of : ℕ → P) (next : List P) (s : P) (k : ℕ)
+    → map number (walk (at_in number of next) s k) ≡ walk (place_at number of next) (number s) k
+walk_numbers number of next s zero = refl
+walk_numbers number of next s (suc k) = ap (λ (l : List ℕ). number s ∷ l) (walk_numbers number of next (at_in number of next s) k)
 
 pub record Marking (f : ℕ) (all : List ℕ) (met₀ met : List Bool) (rest : List ℕ) : Type 0 where
   pub sums : (q : ℕ) → marks met q + tally q rest ≡ marks met₀ q + tally q all

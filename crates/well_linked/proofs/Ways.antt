@@ -1,44 +1,50 @@
 -- A walk along a list that tests the links back, a place a turn: the whole route holds exactly if the rest of it does. Assumes nothing.
-use Prim.Native.Nat.{ℕ, ◌+◌, ◌-◌, ◌≤◌, ◌<◌}
-use mathlib.Core.Path.{◌≡◌, refl, subst}
+use Prim.Native.Nat.{ℕ}
+use mathlib.Core.Path.{◌≡◌, sym, ap, ◌∙◌, subst}
 use mathlib.Core.List.{List, [], ◌∷◌}
-use native.Mathlib.Nat.{sub-zero}
+use lib.ListN.{length}
 use Rattle.links.specs.Route.{walk, Route}
-use Rattle.well_linked.proofs.Marking.{walk_more, walk_done}
+use Rattle.links.proofs.Lists.{length_walk}
 
--- the route from `a` on, k places and then z
-abbrev pub Rest : (ℕ → ℕ) → (ℕ → ℕ) → ℕ → ℕ → ℕ → Type 0
-Rest n p z a k = Route n p a (walk n (n a) k) z
+-- at the cell `here`, with the places `left` of `all` still to come
+pub record Going (n p : ℕ → ℕ) (z root : ℕ) (all : List ℕ) (here : ℕ) (left : List ℕ) : Type 0 where
+  pub way : left ≡ walk n (n here) (length left)
+  pub to : Route n p root all z → Route n p here left z
+  pub of : Route n p here left z → Route n p root all z
 
--- at `here` after i of `many` places
-pub record Going (n p : ℕ → ℕ) (z many root here i : ℕ) : Type 0 where
-  pub to : Rest n p z root many → Rest n p z here (many - i)
-  pub of : Rest n p z here (many - i) → Rest n p z root many
+pub going_none : (n p : ℕ → ℕ) (z root many : ℕ) {left : List ℕ} → left ≡ walk n (n root) many → Going n p z root (walk n (n root) many) root left
+going_none n p z root many e =
+    record {
+      way = e ∙ ap (walk n (n root)) (sym (ap length e ∙ length_walk n (n root) many));
+      to = λ w. rw e w;
+      of = λ w. rw e at w;
+    }
 
-pub going_none : (n p : ℕ → ℕ) (z many root : ℕ) → Going n p z many root root 0
-going_none n p z many root = record { to = rw sub-zero (λ w. w); of = rw sub-zero (λ w. w) }
+module _ {n p : ℕ → ℕ} {z root here : ℕ} {all left : List ℕ} (g : Going n p z root all here left) where
+  module _ {x : ℕ} {rest : List ℕ} (e : left ≡ x ∷ rest) where
+    way : x ∷ rest ≡ n here ∷ walk n (n (n here)) (length rest)
+    way = sym e ∙ g.way ∙ ap (λ (l : List ℕ). walk n (n here) (length l)) e
 
-module _ {n p : ℕ → ℕ} {z many root here i : ℕ} (g : Going n p z many root here i) where
-  module _ (h : i < many) where
-    more : walk n (n here) (many - i) ≡ n here ∷ walk n (n (n here)) (many - (i + 1))
-    more = walk_more n (n here) many i h
+    x_is : x ≡ n here
+    x_is = cc way
 
-    pub going_one : p (n here) ≡ here → Going n p z many root (n here) (i + 1)
-    going_one e =
+    whole : Route n p root all z → Route n p here (x ∷ rest) z
+    whole w = subst (λ (l : List ℕ). Route n p here l z) e (g.to w)
+
+    pub going_one : p x ≡ here → Going n p z root all x rest
+    going_one b =
         record {
-          to = λ w. (subst (λ (l : List ℕ). Route n p here l z) more (g.to w)).2;
-          of = λ w. g.of (rw more (refl, e, w));
+          way = let r : rest ≡ walk n (n (n here)) (length rest) = cc way in r ∙ ap (λ (y : ℕ). walk n (n y) (length rest)) (sym x_is);
+          to = λ w. (whole w).2;
+          of = λ w. g.of (rw e (sym x_is, b, w));
         }
 
-    pub going_off : (p (n here) ≡ here → ⊥) → Rest n p z root many → ⊥
-    going_off e w = e (subst (λ (l : List ℕ). Route n p here l z) more (g.to w)).1
+    pub going_off : (p x ≡ here → ⊥) → Route n p root all z → ⊥
+    going_off b w = b (whole w).1
 
-  module _ (h : many ≤ i) where
-    done : walk n (n here) (many - i) ≡ []
-    done = walk_done n (n here) many i h
+  module _ (e : left ≡ []) where
+    pub going_all : Route n p here [] z → Route n p root all z
+    going_all w = g.of (rw e w)
 
-    pub going_all : Route n p here [] z → Rest n p z root many
-    going_all w = g.of (rw done w)
-
-    pub last : Rest n p z root many → Route n p here [] z
-    last w = subst (λ (l : List ℕ). Route n p here l z) done (g.to w)
+    pub last : Route n p root all z → Route n p here [] z
+    last w = subst (λ (l : List ℕ). Route n p here l z) e (g.to w)

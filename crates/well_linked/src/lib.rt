@@ -3,7 +3,7 @@
 
 #![tactic(auto)]
 
-ghost use Rattle.std.specs.Prelude.{◌≤◌, ◌<◌, [], length};
+ghost use Rattle.std.specs.Prelude.{◌≤◌, ◌<◌, [], length, map};
 ghost use Rattle.index.specs.Agree.{Decides};
 ghost use Rattle.links.specs.Route.{walk, Route};
 ghost use Rattle.links.specs.Places.{Linked};
@@ -14,7 +14,7 @@ ghost use Rattle.well_linked.specs.Chains.{Begun, Walked, Ends, End, Records};
 ghost use Rattle.well_linked.specs.Marks.{Marks, place_at, list_of};
 
 use index::KeyPlace;
-use links::{Counts, Place};
+use links::{Counts, Place, Walk};
 use multimap::{ListOrderedMultimap, MEMBERS, ROUNDS, ValuePlace};
 use std::array;
 
@@ -68,23 +68,22 @@ fn list_linked<P: Place>(next: &[P], previous: &[P], root: P, counts: &Counts) -
     }
     let mut met = [false; 1024];
     let first = links::after(next, root);
-    if !mark(next, first, len, fresh, &mut met) {
+    if !mark(links::along(next, first, len), fresh, &mut met) {
         return false;
     }
-    if !mark(next, free, fresh - len, fresh, &mut met) {
+    if !mark(links::along(next, free, fresh - len), fresh, &mut met) {
         return false;
     }
     both_ways(next, previous, root, len)
 }
 
-// Follows `next` from a place for so many places and marks each: no, where one is not below `fresh` or is marked before it is met.
-fn mark<P: Place>(next: &[P], from: P, many: u16, fresh: u16, met: &mut [bool]) -> bool
+// Marks each of the places: no, where one is not below `fresh` or is marked before it is met.
+fn mark<P: Place>(places: Walk<'_, P>, fresh: u16, met: &mut [bool]) -> bool
     requires { fresh ≤ length met.old }
-    ensures { Marks fresh (walk (place_at P.number P.of next.now) (P.number from) many) met.old met.new result }
+    ensures { Marks fresh (map P.number places.entry) met.old met.new result }
 {
-    let mut here = from;
-    for _ in 0..many {
-        let q = here.index();
+    for place in places {
+        let q = place.index();
         if fresh as usize <= q {
             return false;
         }
@@ -92,7 +91,6 @@ fn mark<P: Place>(next: &[P], from: P, many: u16, fresh: u16, met: &mut [bool]) 
             return false;
         }
         met[q] = true;
-        here = links::after(next, here);
     }
     true
 }
@@ -102,16 +100,15 @@ fn both_ways<P: Place>(next: &[P], previous: &[P], root: P, many: u16) -> bool
     ensures { Decides result (Route (place_at P.number P.of next.now) (place_at P.number P.of previous.now) (P.number root)
         (walk (place_at P.number P.of next.now) (place_at P.number P.of next.now (P.number root)) many) (P.number root)) }
 {
-    let mut here = root;
-    for _ in 0..many {
-        let then = links::after(next, here);
-        let back = links::after(previous, then);
-        if back.index() != here.index() {
+    let mut before = root;
+    for here in links::along(next, links::after(next, root), many) {
+        let back = links::after(previous, here);
+        if back.index() != before.index() {
             return false;
         }
-        here = then;
+        before = here;
     }
-    neighbours(next, previous, here, root)
+    neighbours(next, previous, before, root)
 }
 
 // Says whether `next` leads from the cell a to the cell b, and `previous` back. Compares numbers, since a kind of place promises no equality.
@@ -129,14 +126,7 @@ fn members_linked(map: &ListOrderedMultimap) -> bool
 {
     // The member places in use: as the list is linked, each is met once.
     let mut used = [false; 256];
-    let first = map.first_member();
-    mark(
-        &map.next_key,
-        first,
-        map.members.len,
-        map.members.fresh,
-        &mut used,
-    );
+    mark(map.member_places(), map.members.fresh, &mut used);
     chains_linked(map, &used) && index::agrees(&map.index, &map.keys, &used)
 }
 
@@ -173,9 +163,7 @@ fn follow_chains(map: &ListOrderedMultimap, used: &[bool; 256]) -> Option<[Chain
     ensures { Walked map.now used.now result }
 {
     let mut chains = begin();
-    let mut here = ValuePlace::new(ROUNDS);
-    for _ in 0..map.rounds.len {
-        here = links::after(&map.next_value, here);
+    for here in map.round_places() {
         let k = map.owner(here).index();
         if MEMBERS as usize <= k {
             return None;

@@ -1,18 +1,20 @@
--- `well_linked::mark` meets its contract: what is marked and what is still to come are together the walk. Assumes nothing.
+-- `well_linked::mark` meets its contract: what is marked and what is still to come are together the places. Assumes nothing.
+use mathlib.Core.List.{map}
+use mathlib.Core.Path.{ap}
 use native.Mathlib.Omega.{arith}
-use Rattle.well_linked.proofs.Marking.{walk_more, marking_one, marking_far, marking_seen}
+use Rattle.well_linked.proofs.Marking.{marking_one, marking_far, marking_seen}
 use Rattle.well_linked.proofs.mark.Goals as goal
 
 pub returns-then-fresh-q : goal.returns-then-fresh-q
 returns-then-fresh-q g c =
-    marking_far c.loop.invariant (walk_more _ _ _ _ c.loop-test.true) _ (omega (arith, c.index-q.ensures, c.if-fresh-q.true))
+    marking_far c.loop-place.invariant (ap (map g.P.Place.number) c.in-Some.ensures.steps) _ (omega (arith, c.index-q.ensures, c.if-fresh-q.true))
 
 pub returns-then-met-q : goal.returns-then-met-q
 returns-then-met-q g c =
-    marking_seen c.loop.invariant (walk_more _ _ _ _ c.loop-test.true) _ (rw c.index-q.ensures at c.if-met-q.true)
+    marking_seen c.loop-place.invariant (ap (map g.P.Place.number) c.in-Some.ensures.steps) _ (rw c.index-q.ensures at c.if-met-q.true)
 
-pub loop-preserved : goal.loop-preserved
-loop-preserved g c =
-    rw (c.after-here.ensures, c.index-q.ensures)
-    (marking_one c.loop.invariant (walk_more _ _ _ _ c.loop-test.true) (omega (arith, c.index-q.ensures, c.if-fresh-q.false)) c.requires
+pub loop-place-preserved : goal.loop-place-preserved
+loop-place-preserved g c =
+    rw c.index-q.ensures
+    (marking_one c.loop-place.invariant (ap (map g.P.Place.number) c.in-Some.ensures.steps) (omega (arith, c.index-q.ensures, c.if-fresh-q.false)) c.requires
     (rw c.index-q.ensures at c.if-met-q.false))

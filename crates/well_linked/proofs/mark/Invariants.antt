@@ -1,11 +1,8 @@
-use Prim.Native.Nat.{◌-◌}
-use Rattle.links.specs.Route.{walk}
-use Rattle.well_linked.specs.Marks.{place_at}
+use mathlib.Core.List.{map}
 use Rattle.well_linked.proofs.Marking.{Marking}
 use Rattle.well_linked.proofs.mark.Given as goal
 
-abbrev pub invariant-loop : goal.invariant-loop
-invariant-loop g l =
+abbrev pub invariant-loop-place : goal.invariant-loop-place
+invariant-loop-place g l =
     let P = g.P.Place in
-    Marking l.fresh (walk (place_at P.number P.of l.next) (P.number l.fn.from) l.many) l.initial.met l.met
-    (walk (place_at P.number P.of l.next) (P.number l.here) (l.many - l.counter))
+    Marking l.fresh (map P.number l.fn.places) l.initial.met l.met (map P.number l.place-iterator)
