@@ -1,7 +1,7 @@
 -- The turns of `strike`. Assumes nothing.
 use Prim.Native.Nat.{ℕ, zero, suc, ◌+◌, ◌-◌, ◌≤◌, ◌<◌}
 use mathlib.Core.Path.{◌≡◌, refl, sym, ap, ◌∙◌, subst}
-use mathlib.Core.Bool.{Bool, true, false, cond, not}
+use mathlib.Core.Bool.{Bool, true, false, not}
 use mathlib.Core.List.{List, [], ◌∷◌, ◌++◌}
 use native.Mathlib.Omega.{arith}
 use native.Mathlib.Numerals.{add-one}
@@ -280,8 +280,3 @@ module _ (b : Bool) (m : ListOrderedMultimap) (start turns : ℕ) (h : Stretch b
             same_root : (b : Bool) → root b (links_of o) k ≡ root b (links_of a) k
             same_root true = refl
             same_root false = refl
-
--- the code's choice of the way on
-pub onward_cond : (b : Bool) (c : Links) (q y : ℕ) → y ≡ cond b (c.next q) (c.rounds.next q) → y ≡ onward b c q
-onward_cond true c q y e = e
-onward_cond false c q y e = e

@@ -133,26 +133,6 @@ join_over p L xs o n e f =
     ∙ sym (append_assoc p L (drop (n + length L) xs))
     ∙ ap (λ (j : ℕ). (p ++ L) ++ drop j xs) (sym (length-append p L ∙ ap (λ (j : ℕ). j + length L) e))
 
--- four numbers stored one after the other into a slice of four
-pub stored_four : (l n : List ℕ) → length l ≡ 4 → length n ≡ 4 → set (set (set (set l 0 (get_or n 0 0)) 1 (get_or n 1 0)) 2 (get_or n 2 0)) 3 (get_or n 3 0) ≡ n
-stored_four l n e f = first l e ∙ last n f
-  where
-    first : (l : List ℕ) → length l ≡ 4 → set (set (set (set l 0 (get_or n 0 0)) 1 (get_or n 1 0)) 2 (get_or n 2 0)) 3 (get_or n 3 0) ≡ get_or n 0 0 ∷ get_or n 1 0 ∷ get_or n 2 0 ∷ get_or n 3 0 ∷ []
-    first [] e = absurd (omega arith)
-    first (a ∷ []) e = absurd (omega arith)
-    first (a ∷ b ∷ []) e = absurd (omega arith)
-    first (a ∷ b ∷ c ∷ []) e = absurd (omega arith)
-    first (a ∷ b ∷ c ∷ d ∷ []) e = refl
-    first (a ∷ b ∷ c ∷ d ∷ g ∷ l) e = absurd (omega arith)
-
-    last : (n : List ℕ) → length n ≡ 4 → get_or n 0 0 ∷ get_or n 1 0 ∷ get_or n 2 0 ∷ get_or n 3 0 ∷ [] ≡ n
-    last [] e = absurd (omega arith)
-    last (a ∷ []) e = absurd (omega arith)
-    last (a ∷ b ∷ []) e = absurd (omega arith)
-    last (a ∷ b ∷ c ∷ []) e = absurd (omega arith)
-    last (a ∷ b ∷ c ∷ d ∷ []) e = refl
-    last (a ∷ b ∷ c ∷ d ∷ g ∷ l) e = absurd (omega arith)
-
 module _ {Map : Type 0} (M : Kind Map) where
   pub ran_ended : (calls outs outs2 marks ans : List ℕ) (m : Map) → decode calls outs outs2 marks (length ans) ≡ [] → Ran M calls outs outs2 marks ans m outs outs2 ans m 0
   ran_ended calls outs outs2 marks ans m e = record { outcomes = []; trace = rw e stop; outs_are = refl; outs2_are = refl; ans_are = refl; number = sym (ap length e) }

@@ -111,6 +111,3 @@ module _ {a b : Page} {x : List ℕ} (p : Kept a x b) where
 
   pub kept_as : {y : List ℕ} → x ≡ y → Kept a y b
   kept_as e = rw e at p
-
-pub kept_none : (a : Page) → a.at ≤ length a.out.now → Kept a [] a
-kept_none a h = record { same_slice = refl; held = held_none a.out.now a.at h }

@@ -14,11 +14,6 @@ use Rattle.tapes.specs.Printed.{left_text, run_text, limits_in, parts_text, list
 use Rattle.tapes.proofs.Holds.{held_at, Coming, come_all, come_less, come_none}
 use Rattle.parsing.proofs.Gaps.{gap_le}
 
--- what `replay` leaves is what is printed of the run
-pub played_left : {l : Limits} {calls outs outs2 marks ans outs' outs2' ans' : List ℕ} {m : ListOrderedMultimap} {n : ℕ}
-    → Played l calls outs outs2 marks ans outs' outs2' ans' m n → left_text n ans' outs' outs2' ≡ run_text l calls outs outs2 marks ans
-played_left p = cc
-
 -- what was read of a part, as far as the slice is long
 pub front_of : {x y was now : List ℕ} {r : ℕ} (n : ℕ) → Held x was 0 now r → length was ≡ n → x ≡ y → take r now ≡ take n y
 front_of {x} {y} {was} {now} {r} n h l e = h.front ∙ ap (λ (k : ℕ). take k x) l ∙ ap (take n) e
@@ -54,11 +49,6 @@ part_long s = omega (arith, length-take (gap 59 s) s, gap_le 59 s)
 
 -- where no semicolon is left there is no list, and nothing after it
 module _ (s name : List ℕ) (e : name ≡ part_of s) where
-  pub no_list : length s ≤ length name → list_text s ≡ []
-  no_list h =
-      let g : length s ≤ gap 59 s = omega (arith, part_long s, ap length e) in
-      rw (le-ltb (gap 59 s) (length s) g)
-
   pub none_left : length s ≤ length name → rest_of s ≡ lists_after s
   unfolding gap
   none_left h =
@@ -81,9 +71,6 @@ pub record Lists (s was out : List ℕ) (place : ℕ) (left : List ℕ) : Type 0
   pub more : ℕ
   pub enough : length left ≤ more
   pub coming : Coming was 0 (lists_text s) out place (first_lists more left)
-
-pub lists_all : (s was : List ℕ) → Lists s was was 0 s
-lists_all s was = record { more = length s; enough = omega arith; coming = come_all was 0 (lists_text s) (omega arith) }
 
 lists_with : {s was out next : List ℕ} {place after : ℕ} (left : List ℕ) (more : ℕ) → 0 < length left → length left ≤ more
     → Coming was 0 (lists_text s) out place (first_lists more left) → Held (list_text left) out place next after → Lists s was next after (lists_after left)

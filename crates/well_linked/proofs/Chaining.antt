@@ -31,16 +31,6 @@ pub record Chaining (key next prev : ℕ → ℕ) (all : List ℕ) (used : List 
   pub parts : (k : ℕ) → k < 256 → Part next prev k (record_of key k all) (record_of key k rest) (chain_at cs k)
   pub long : length cs ≡ 256
 
-pub chaining_none : (key next prev : ℕ → ℕ) (all : List ℕ) (used : List Bool) (cs : List Chain) → Begun cs
-    → Chaining key next prev all used cs all
-chaining_none key next prev all used cs b =
-    record {
-      keys = λ q h. inr h;
-      part = λ q h. h;
-      parts = λ k l. rw (b.bases k l) (record { to = λ w. w; of = λ w. w; counted = omega arith });
-      long = b.long;
-    }
-
 -- what is read of the chain of k, whatever is read past the end
 pub read_chain : (cs : List Chain) (k : ℕ) (d : Chain) → length cs ≡ 256 → k < 256 → get_or cs k d ≡ chain_at cs k
 read_chain cs k d e l = get_or_default cs k d _ (omega arith)
@@ -48,20 +38,6 @@ read_chain cs k d e l = get_or_default cs k d _ (omega arith)
 -- no member place past the marks is in use
 pub past : (used : List Bool) (k : ℕ) → length used ≡ 256 → 256 ≤ k → Used used k → ⊥
 past used k e h u = true_false u (get_or-eq_default used false {n = k} (omega arith))
-
--- no round is still to come
-pub followed : {key next prev : ℕ → ℕ} {all : List ℕ} {used : List Bool} {cs : List Chain} {rest : List ℕ}
-    → Chaining key next prev all used cs rest → rest ≡ [] → Followed key next prev all used cs
-followed {key} {next} {prev} {all} {cs} {rest} c e =
-    record {
-      keys = λ q h. ⊎_elim (λ u. u) (λ (i : 0 < tally q rest). absurd (omega (arith, ap (tally q) e))) (c.keys q h);
-      to = λ k l. (closed k l).to;
-      of = λ k l. (closed k l).of;
-      counted = λ k l. omega (arith, (closed k l).counted);
-    }
-  where
-    closed : (k : ℕ) → k < 256 → Part next prev k (record_of key k all) [] (chain_at cs k)
-    closed k l = rw (ap (record_of key k) e) at (c.parts k l)
 
 -- x is the next round, and k its member place
 module _ {key next prev : ℕ → ℕ} {all : List ℕ} {used : List Bool} {cs : List Chain} {rest xs : List ℕ} {x k : ℕ}

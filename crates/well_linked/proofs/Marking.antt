@@ -30,21 +30,7 @@ pub record Marking (f : ℕ) (all : List ℕ) (met₀ met : List Bool) (rest : L
   pub far : (q : ℕ) → f ≤ q → tally q rest ≡ tally q all
   pub long : length met ≡ length met₀
 
-pub marking_none : (f : ℕ) (all : List ℕ) (met : List Bool) → Marking f all met met all
-marking_none f all met = record { sums = λ q. refl; far = λ q h. refl; long = refl }
-
 module _ {f : ℕ} {all : List ℕ} {met₀ met : List Bool} {rest : List ℕ} (m : Marking f all met₀ met rest) where
-  pub marking_all : rest ≡ [] → Marks f all met₀ met true
-  marking_all e =
-      record {
-        decided =
-            record {
-              once = λ q. omega (arith, m.sums q, ap (tally q) e, bit_le (get_or met q false));
-              below = λ q h. lt_of_not-le (λ i. omega (arith, m.far q i, ap (tally q) e));
-            };
-        marked = λ r q. omega (arith, m.sums q, ap (tally q) e);
-      }
-
   module _ {x : ℕ} {xs : List ℕ} (e : rest ≡ x ∷ xs) where
     pub marking_one : x < f → f ≤ length met₀ → get_or met x false ≡ false → Marking f all met₀ (set met x true) xs
     marking_one l h u =

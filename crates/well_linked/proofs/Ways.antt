@@ -43,8 +43,5 @@ module _ {n p : ℕ → ℕ} {z root here : ℕ} {all left : List ℕ} (g : Goin
     going_off b w = b (whole w).1
 
   module _ (e : left ≡ []) where
-    pub going_all : Route n p here [] z → Route n p root all z
-    going_all w = g.of (rw e w)
-
     pub last : Route n p root all z → Route n p here [] z
     last w = subst (λ (l : List ℕ). Route n p here l z) e (g.to w)

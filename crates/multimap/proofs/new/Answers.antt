@@ -2,16 +2,13 @@
 use mathlib.Core.Path.{ap, sym, ◌∙◌}
 use Rattle.steps.specs.State.{State}
 use Rattle.steps.specs.Call.{Answer}
-use Rattle.steps.proofs.Limits.{made_refused, made_done, may_have}
+use Rattle.steps.proofs.Limits.{made_refused, made_done}
 use Rattle.multimap.proofs.new.Goals as goal
 
 pub returns-then-are_too_high : goal.returns-then-are_too_high
 returns-then-are_too_high c =
     let e = sym c.are_too_high.ensures ∙ c.if-are_too_high.true in
     (c.bare.ensures.0, c.bare.ensures.1 ∙ sym (ap (λ (r : Answer × State). r.1) (made_refused c.args.limits e)))
-
-pub bare-requires-2 : goal.bare-requires-2
-bare-requires-2 c = may_have _ c.are_too_high.ensures c.if-are_too_high.false
 
 pub returns : goal.returns
 returns c =
