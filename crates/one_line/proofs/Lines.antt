@@ -52,11 +52,11 @@ module _ (line : List ℕ) (m : ListOrderedMultimap) {was out : List ℕ} {m' : 
   pub line_answered : Answers line m was (set out n 10) m' (n + 1)
   line_answered =
       record {
-        most = omega (arith, p.short h);
+        most = omega arith;
         answered =
             λ g wl.
             record {
-              bytes = put_over (ended wl) (omega (arith, p.short h, (ended wl).next));
+              bytes = put_over (ended wl) (omega (arith, (ended wl).next));
               count = omega (arith, (ended wl).next);
               state = (p.replied wl).state;
               linked = (p.replied wl).linked;

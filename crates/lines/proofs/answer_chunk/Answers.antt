@@ -1,7 +1,7 @@
 -- `lines::answer_chunk` meets its contract. Assumes nothing.
-use Prim.Native.Nat.{◌-◌}
+use Prim.Native.Nat.{ℕ}
 use native.Mathlib.Omega.{arith}
-use lib.ListN.{length, drop, length-take, length-drop}
+use lib.ListN.{length-take, length-drop}
 use Rattle.lines.proofs.Chunks.{chunk_none, chunk_turn}
 use Rattle.lines.proofs.answer_chunk.Goals as goal
 
@@ -15,11 +15,8 @@ loop-at-init c =
 
 pub loop-at-preserved : goal.loop-at-preserved
 loop-at-preserved c =
-    let i = c.loop-at.invariant in
-    let chunk = c.args.chunk.now in
-    let next = c.answer_next-next in
     record {
-      chunked = chunk_turn chunk c.loop-at.at next.result.eaten c.loop-at.auto.out i.chunked next.ensures.chunked;
-      within = omega (arith, i.within, next.ensures.eaten_nonzero.1, length-take (length chunk - c.loop-at.at) (drop c.loop-at.at chunk), length-drop c.loop-at.at chunk);
-      some = λ e. absurd (omega (arith, next.ensures.eaten_nonzero.0));
+      chunked = chunk_turn c.args.chunk.now c.loop-at.at _ c.loop-at.auto.out c.loop-at.invariant.chunked c.answer_next-next.ensures.chunked;
+      within = omega (arith, length-take {A = ℕ}, length-drop {A = ℕ});
+      some = λ e. omega arith;
     }
