@@ -87,24 +87,24 @@ chunk_none u m was l =
       held = sym (take_all 1101 (held_of u) (omega (arith, length-take u.held u.bytes)));
     }
 
-pub chunk_join : {h x h' y h'' : List ℕ} {m m' m'' : ListOrderedMultimap} {was out part : List ℕ} {u v : ℕ} → length out ≡ length was → Chunked h x m was out m' u h'
-    → Chunked h' y m' (drop u out) part m'' v h'' → Chunked h (x ++ y) m was (take u out ++ part) m'' (u + v) h''
-chunk_join {h} {x} {h'} {y} {h''} {m} {m'} long p q =
+pub chunk_join : {h x h' y h'' : List ℕ} {m m' m'' : ListOrderedMultimap} {was out part : List ℕ} {u v : ℕ} → Chunked h x m was out m' u h' → Chunked h' y m' (drop u out) part m'' v h''
+    → Chunked h (x ++ y) m was (take u out ++ part) m'' (u + v) h''
+chunk_join {h} {x} {h'} {y} {h''} {m} {m'} p q =
     let e : front h' ≡ front (rest h x) = ap front p.held ∙ front_front (rest h x) in
     let a = alike y h' (rest h x) e in
-    let o = outputs_join long p.outputs (outputs_as (ended (rest h x) y) q.outputs (alike_output (state_of m') a.0) (alike_after (state_of m') a.0) (alike_none a.0)) in
+    let o = outputs_join p.outputs (outputs_as (ended (rest h x) y) q.outputs (alike_output (state_of m') a.0) (alike_after (state_of m') a.0) (alike_none a.0)) in
     let c = chunk_append x y h in
     record { outputs = rw c.0 o; held = q.held ∙ a.1 ∙ ap front (sym c.1) }
 
 -- a turn of `answer_chunk`: the next part of the chunk is answered to the part of `out` that is left
-pub chunk_turn : (chunk : List ℕ) (at e : ℕ) {h h' h'' : List ℕ} {m m' m'' : ListOrderedMultimap} {was out part : List ℕ} {used v : ℕ} → length out ≡ length was
-    → Chunked h (take at chunk) m was out m' used h' → Chunked h' (take e (take (length chunk - at) (drop at chunk))) m' (take (length out - used) (drop used out)) part m'' v h''
+pub chunk_turn : (chunk : List ℕ) (at e : ℕ) {h h' h'' : List ℕ} {m m' m'' : ListOrderedMultimap} {was out part : List ℕ} {used v : ℕ} → Chunked h (take at chunk) m was out m' used h'
+    → Chunked h' (take e (take (length chunk - at) (drop at chunk))) m' (take (length out - used) (drop used out)) part m'' v h''
     → Chunked h (take (at + e) chunk) m was (put_mid used (length out - used) out part) m'' (used + v) h''
-chunk_turn chunk at e {h} {h'} {h''} {m} {m'} {m''} {was} {out} {part} {used} {v} long p q =
+chunk_turn chunk at e {h} {h'} {h''} {m} {m'} {m''} {was} {out} {part} {used} {v} p q =
     let c : take (length chunk - at) (drop at chunk) ≡ drop at chunk = take_all (length chunk - at) (drop at chunk) (omega (arith, length-drop at chunk)) in
     let o : take (length out - used) (drop used out) ≡ drop used out = take_all (length out - used) (drop used out) (omega (arith, length-drop used out)) in
     let n : drop (length out - used) (drop used out) ≡ [] = drop_of_length-le (drop used out) {i = length out - used} (omega (arith, length-drop used out)) in
-    rw (take-add at e chunk, n, append-nil part) (chunk_join long p (rw (c, o) at q))
+    rw (take-add at e chunk, n, append-nil part) (chunk_join p (rw (c, o) at q))
 
 -- ---- a chunk up to its first line end
 
@@ -140,15 +140,15 @@ goes_on (b ∷ c) h i = goes_when b c h (eqb b 10) i (goes_on c)
 -- what `take_line` takes of a chunk, and what is done with it
 module _ {chunk : List ℕ} {was line : Unfinished} (long : length was.bytes ≡ 1101) where
   -- a line has ended, and is answered
-  pub took_line : {m m' : ListOrderedMultimap} {old out : List ℕ} {u n : ℕ} → Ends chunk was line u → Roomy old → Answers (held_of line) m old out m' n
+  pub took_line : {m m' : ListOrderedMultimap} {old out : List ℕ} {u n : ℕ} → Ends chunk was line u → Roomy old → length out ≡ length old → Answers (held_of line) m old out m' n
       → Chunked (held_of was) (take u chunk) m old out m' n []
-  took_line {m} {m'} {old} {out} {u} {n} k h a =
+  took_line {m} {m'} {old} {out} {u} {n} k h same a =
       let all = held_of was ++ take (gap 10 chunk) chunk in
       let g : gap 10 chunk < length chunk = k.within in
       let e : u ≡ suc (gap 10 chunk) = k.used ∙ add-one (gap 10 chunk) in
       let f : front (held_of line) ≡ front all = ap front (k.holds.front ∙ ap (λ (i : ℕ). take i all) long) ∙ front_front all in
       record {
-        outputs = rw (e, (ends chunk (held_of was) g).0) (outputs_one all f h a);
+        outputs = rw (e, (ends chunk (held_of was) g).0) (outputs_one all f h same a);
         held = sym (ap front (ap (λ (i : ℕ). rest (held_of was) (take i chunk)) e ∙ (ends chunk (held_of was) g).1));
       }
 
@@ -168,6 +168,7 @@ pub rest_none : (l : List ℕ) (m : ListOrderedMultimap) (was : List ℕ) → (l
 rest_none [] m was h = record { answered = λ r. outputs_none m was; unanswered = λ r. record { kept = refl; none = refl; same = refl } }
 rest_none (b ∷ bs) m was h = absurd (omega (arith, eqb-true (length (b ∷ bs)) 0 h))
 
-pub rest_some : {m m' : ListOrderedMultimap} {was out : List ℕ} {k : ℕ} (l : List ℕ) → (length l == 0) ≡ false → Answers l m was out m' k → AnswersRest l m was out m' k
-rest_some [] h a = cc
-rest_some (b ∷ bs) h a = record { answered = λ r. outputs_one (b ∷ bs) refl r a; unanswered = a.unanswered }
+pub rest_some : {m m' : ListOrderedMultimap} {was out : List ℕ} {k : ℕ} (l : List ℕ) → (length l == 0) ≡ false → length out ≡ length was → Answers l m was out m' k
+    → AnswersRest l m was out m' k
+rest_some [] h i a = cc
+rest_some (b ∷ bs) h i a = record { answered = λ r. outputs_one (b ∷ bs) refl r i a; unanswered = a.unanswered }

@@ -3,7 +3,7 @@ use Prim.Native.Nat.{ℕ, ◌+◌}
 use mathlib.Core.Path.{◌≡◌, refl, sym, ap, ◌∙◌}
 use mathlib.Core.List.{List, [], ◌∷◌, ◌++◌, append_assoc, append-nil}
 use native.Mathlib.Omega.{arith}
-use lib.ListN.{length, take, drop, length-append, length-drop}
+use lib.ListN.{length, take, drop, length-append, length-take, length-drop}
 use lib.Seq.{take_at, drop_at, drop-drop}
 use Rattle.steps.specs.State.{State}
 use Rattle.steps.specs.Step.{over}
@@ -52,15 +52,16 @@ after_one l s = refl
 -- nothing is answered
 pub outputs_none : (m : ListOrderedMultimap) (was : List ℕ) → Outputs [] m was was m 0
 unfolding output_of after
-outputs_none m was = record { room = omega arith; answered = λ wl. record { bytes = refl; count = refl; state = refl; linked = wl; same = λ e. refl } }
+outputs_none m was = record { room = omega arith; long = refl; answered = λ wl. record { bytes = refl; count = refl; state = refl; linked = wl; same = λ e. refl } }
 
 -- a line is answered, by its front
-pub outputs_one : {l : List ℕ} {m : ListOrderedMultimap} {was out : List ℕ} {m' : ListOrderedMultimap} {n : ℕ} (line : List ℕ) → front l ≡ front line → Roomy was → Answers l m was out m' n
-    → Outputs (line ∷ []) m was out m' n
-outputs_one {l} {m} {was} {out} {m'} {n} line e h a =
+pub outputs_one : {l : List ℕ} {m : ListOrderedMultimap} {was out : List ℕ} {m' : ListOrderedMultimap} {n : ℕ} (line : List ℕ) → front l ≡ front line → Roomy was → length out ≡ length was
+    → Answers l m was out m' n → Outputs (line ∷ []) m was out m' n
+outputs_one {l} {m} {was} {out} {m'} {n} line e h k a =
     let o : printed l (state_of m) ≡ output_of (line ∷ []) (state_of m) = sym (output_one l (state_of m)) ∙ same_printed l line [] (state_of m) e in
     record {
       room = omega (arith, a.most);
+      long = k;
       answered =
           λ wl.
           let r = a.answered h wl in
@@ -79,6 +80,7 @@ pub outputs_as : {ls : List (List ℕ)} {m : ListOrderedMultimap} {was out : Lis
 outputs_as {ls} {m} {was} {out} {m'} {n} ms o e f g =
     record {
       room = o.room;
+      long = o.long;
       answered =
           λ wl.
           let r = o.answered wl in
@@ -135,7 +137,11 @@ module _ {ls ms : List (List ℕ)} {m m' m'' : ListOrderedMultimap} {was out par
       none [] ms e = (refl, e)
       none (l ∷ ls) ms e = let z : ◌≡◌ {A = ℕ} 0 1 = cc in absurd (omega arith)
 
-pub outputs_join : {ls ms : List (List ℕ)} {m m' m'' : ListOrderedMultimap} {was out part : List ℕ} {u v : ℕ} → length out ≡ length was → Outputs ls m was out m' u
-    → Outputs ms m' (drop u out) part m'' v → Outputs (ls ++ ms) m was (take u out ++ part) m'' (u + v)
-outputs_join {out = out} {u = u} long p q =
-    record { room = omega (arith, p.room, q.room, length-drop u out); answered = λ wl. answered_join (p.answered wl) (q.answered (p.answered wl).linked) }
+pub outputs_join : {ls ms : List (List ℕ)} {m m' m'' : ListOrderedMultimap} {was out part : List ℕ} {u v : ℕ} → Outputs ls m was out m' u → Outputs ms m' (drop u out) part m'' v
+    → Outputs (ls ++ ms) m was (take u out ++ part) m'' (u + v)
+outputs_join {out = out} {part = part} {u = u} p q =
+    record {
+      room = omega (arith, p.room, q.room, p.long, length-drop u out);
+      long = omega (arith, p.room, p.long, q.long, length-append (take u out) part, length-take u out, length-drop u out);
+      answered = λ wl. answered_join (p.answered wl) (q.answered (p.answered wl).linked);
+    }

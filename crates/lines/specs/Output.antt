@@ -28,7 +28,8 @@ pub record AnsweredAll (ls : List (List ℕ)) (m : ListOrderedMultimap) (was out
   pub linked : WellLinked m'
   pub same : ls ≡ [] → m' ≡ m
 
--- so of every well-linked map; of any other no more than that the printed bytes have room
+-- so of every well-linked map; of any other no more than that the printed bytes have room, and that `out` keeps its length
 pub record Outputs (ls : List (List ℕ)) (m : ListOrderedMultimap) (was out : List ℕ) (m' : ListOrderedMultimap) (n : ℕ) : Type 0 where
   pub room : n ≤ length was
+  pub long : length out ≡ length was
   pub answered : WellLinked m → AnsweredAll ls m was out m' n

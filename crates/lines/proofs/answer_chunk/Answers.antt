@@ -16,7 +16,7 @@ loop-at-init c =
 pub loop-at-preserved : goal.loop-at-preserved
 loop-at-preserved c =
     record {
-      chunked = chunk_turn c.args.chunk.now c.loop-at.at _ c.loop-at.auto.out c.loop-at.invariant.chunked c.answer_next-next.ensures.chunked;
+      chunked = chunk_turn c.args.chunk.now c.loop-at.at _ c.loop-at.invariant.chunked c.answer_next-next.ensures.chunked;
       within = omega (arith, length-take {A = ℕ}, length-drop {A = ℕ});
       some = λ e. omega arith;
     }
