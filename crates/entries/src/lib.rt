@@ -1,5 +1,4 @@
-// The calls of the Rust crate's `OccupiedEntry` and `VacantEntry`, in place. Each asks for the entry first, and goes on only when it is Occupied, or
-// Vacant.
+// The calls of the Rust crate's `OccupiedEntry` and `VacantEntry`, in place. Each goes on only where the entry is Occupied, or Vacant.
 
 #![tactic(auto)]
 

@@ -13,6 +13,7 @@ const LONGEST: usize = 16393;
 
 fn main(rt: HostRuntime) -> io::Result<()> {
     let mut input = rt.stdin();
+    // Ends at so many images, more than are given: a proved loop has to end, and nothing says that the input does.
     for _ in 0..100000 {
         if !turn(&rt, &mut input)? {
             break;

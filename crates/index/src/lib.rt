@@ -47,8 +47,8 @@ impl Place for KeyPlace {
 }
 
 // What a search finds: the member's place in the index, its member place and how many places were looked at;
-// or the first empty place, and how many were looked at. A Result of two tuples would be no plainer: neither case is an error that `?` hands on,
-// and its numbers would lose the names At and Absent.
+// or the first empty place, and how many were looked at. A Result of two tuples would be no plainer: Absent is no error, since a new member is put
+// where it says, and the numbers would lose the names At and Absent.
 #[derive(Clone, Copy)]
 pub enum Found {
     At(usize, KeyPlace, usize),

@@ -49,6 +49,7 @@ pub fn replace(map: &mut ListOrderedMultimap, poster: u64, key: KeyPlace, v: u64
 pub fn empty(map: &mut ListOrderedMultimap, key: KeyPlace)
     ensures { map.new ≡ without_record map.old key }
 {
+    // Goes along the links by hand, since it changes them as it goes.
     let mut x = map.head(key);
     for _ in 0..map.size(key) {
         let after = links::after(&map.next_index, x);

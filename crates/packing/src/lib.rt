@@ -1,5 +1,5 @@
 // `new` and `clear`, after which no place is in use, and `pack_to`, after which the places from 0 on are, in order. The map is changed where it
-// stands. No function has a premise.
+// stands. No public function has a premise.
 
 #![tactic(auto)]
 
@@ -141,6 +141,7 @@ fn pack(map: &mut ListOrderedMultimap)
 fn copy_members(map: &ListOrderedMultimap, numbers: &mut [u64], ranks: &mut [KeyPlace; 256])
     ensures { let ks : List ℕ = listed map.now.next_key 256 map.now.members.len in Distinct ks 256 → length numbers.old ≡ map.now.members.len → MembersCopied map.now.keys ks numbers.new ranks.new }
 {
+    // Writes by the rank, since a proof knows nothing of what is written through a `zip` of `iter_mut`; `copy_rounds` does so too.
     for (rank, x) in map.member_places().enumerate() {
         links::put(numbers, rank, map.member(x));
         links::put(ranks, x.index(), KeyPlace::new(rank as u16));

@@ -1,5 +1,6 @@
-// What C and Rust call of the map: each export makes the call of its name and tells its answer by four numbers, since C has no enum with values. A
-// map is lent by a pointer to the record; `om_turn` takes the record by value. The C interface gives a map's two limits one by one.
+// What C and Rust call of the map: each export makes the call of its name and tells its answer by four numbers, since C has no enum with values;
+// `om_well_linked` gives 1 or 0, and `replay` how many calls it ran. A map is lent by a pointer to the record; `om_turn` takes the record by value.
+// The C interface gives a map's two limits one by one.
 
 #![tactic(auto)]
 

@@ -4,7 +4,7 @@
 
 mod putting;
 
-ghost use Rattle.std.specs.Prelude.{◌+◌, ◌<◌, ◌≤◌, ◌≡◌, [], ◌++◌, length, take};
+ghost use Rattle.std.specs.Prelude.{◌+◌, ◌<◌, ◌≡◌, [], ◌++◌, length, take};
 ghost use Rattle.steps.specs.Call.{lend};
 ghost use Rattle.steps.specs.Call as C;
 ghost use Rattle.answers.specs.Answers.{answer_of, answered};
@@ -12,7 +12,7 @@ ghost use Rattle.printing.specs.Text as Text;
 ghost use Rattle.printing.specs.Reply as Reply;
 ghost use Rattle.printing.specs.Counts.{text_with};
 ghost use Rattle.printing.specs.Said.{max_printed, Prints};
-ghost use Rattle.printing.specs.Put.{Wrote};
+ghost use Rattle.printing.specs.Put.{Room, Wrote};
 
 use crate::putting::Writer;
 pub use crate::putting::decimal;
@@ -111,7 +111,7 @@ fn print<A: IntoAnswer + Drop>(
 impl Writer<'_> {
     // Writes a word, and a number after a space.
     fn put_count(&mut self, word: &[u8], n: u64)
-        requires { self.old.at + (length word.now + 21) ≤ length self.old.out.now }
+        requires { Room (length word.now + 21) self.old }
         ensures { Wrote self.old (word.now ++ Text.spaced n) self.new }
     {
         self.put(word);
@@ -120,7 +120,7 @@ impl Writer<'_> {
 
     // Writes `pop`, the member, the round, and whether the member is gone.
     fn put_popped(&mut self, p: Popped)
-        requires { self.old.at + 51 ≤ length self.old.out.now }
+        requires { Room 51 self.old }
         ensures { Wrote self.old (Reply.text_of (Reply.kept (lend [] [])) (C.popped p.member p.round p.gone)) self.new }
     {
         self.put_count(b"pop", p.member);
@@ -131,7 +131,7 @@ impl Writer<'_> {
     // Writes an answer, or the number of a refusal.
     #[tactic(auto, using(crate::proofs::Decimals::decimal_long))]
     fn put_outcome<A: IntoAnswer>(&mut self, outcome: Result<A, Refusal>, counted: Counted)
-        requires { self.old.at + max_printed ≤ length self.old.out.now }
+        requires { Room max_printed self.old }
         ensures wrote { Wrote self.old (Reply.text_of (text_with counted.entry) (answered A.answer outcome)) self.new }
         ensures short { self.new.at < self.old.at + max_printed }
     {
@@ -143,7 +143,7 @@ impl Writer<'_> {
 
     // Writes an answer. Those of the last arm are no line's.
     fn put_answer(&mut self, answer: Answer, counted: Counted)
-        requires { self.old.at + max_printed ≤ length self.old.out.now }
+        requires { Room max_printed self.old }
         ensures wrote { Wrote self.old (Reply.text_of (text_with counted.entry) (answer_of answer)) self.new }
         ensures short { self.new.at < self.old.at + max_printed }
     {
@@ -158,7 +158,7 @@ impl Writer<'_> {
 
     // Writes a count with what it counts.
     fn put_counted(&mut self, n: u64, counted: Counted)
-        requires { self.old.at + max_printed ≤ length self.old.out.now }
+        requires { Room max_printed self.old }
         ensures wrote { Wrote self.old (text_with counted.entry n) self.new }
         ensures short { self.new.at < self.old.at + max_printed }
     {

@@ -1,7 +1,7 @@
 // Bytes and numbers written into a slice one after another. Not by `write!`: each of its calls may fail, and here there is room for all of them.
-ghost use Rattle.std.specs.Prelude.{◌∷◌, [], ◌+◌, ◌*◌, ◌≤◌, ◌≡◌, length};
+ghost use Rattle.std.specs.Prelude.{◌∷◌, [], ◌*◌, ◌≡◌, length};
 ghost use Rattle.printing.specs.Text as Text;
-ghost use Rattle.printing.specs.Put.{Wrote};
+ghost use Rattle.printing.specs.Put.{Room, Wrote};
 
 // A slice, and how many of its first bytes are written. Is no `Vec`, since there is no heap.
 #[derive(Drop)]
@@ -22,7 +22,7 @@ pub fn decimal(n: u64, digits: &mut [u8; 20]) -> &[u8]
 impl Writer<'_> {
     #[tactic(auto, using(crate::proofs::Puts::put_copied))]
     pub(crate) fn put(&mut self, bytes: &[u8])
-        requires { self.old.at + length bytes.now ≤ length self.old.out.now }
+        requires { Room (length bytes.now) self.old }
         ensures { Wrote self.old bytes.now self.new }
     {
         let end = self.at + bytes.len();
@@ -32,7 +32,7 @@ impl Writer<'_> {
 
     // Writes a number after a byte: a space or a colon.
     pub(crate) fn put_after(&mut self, mark: u8, n: u64)
-        requires { self.old.at + 21 ≤ length self.old.out.now }
+        requires { Room 21 self.old }
         ensures { Wrote self.old (mark ∷ Text.decimal n) self.new }
     {
         self.put(&[mark]);
@@ -41,7 +41,7 @@ impl Writer<'_> {
 
     // Writes each number after a space.
     pub(crate) fn put_values(&mut self, values: &[u64])
-        requires { self.old.at + 21 * length values.now ≤ length self.old.out.now }
+        requires { Room (21 * length values.now) self.old }
         ensures { Wrote self.old (Text.values values.now) self.new }
     {
         for &value in values {
@@ -51,7 +51,7 @@ impl Writer<'_> {
 
     // Writes a member and its round after a space, with a colon between.
     fn put_pair(&mut self, member: u64, round: u64)
-        requires { self.old.at + 42 ≤ length self.old.out.now }
+        requires { Room 42 self.old }
         ensures { Wrote self.old (Text.paired (member, round)) self.new }
     {
         self.put_after(b' ', member);
@@ -60,7 +60,7 @@ impl Writer<'_> {
 
     // Writes each member with its round.
     pub(crate) fn put_pairs(&mut self, members: &[u64], rounds: &[u64])
-        requires { self.old.at + 42 * length members.now ≤ length self.old.out.now }
+        requires { Room (42 * length members.now) self.old }
         ensures { Wrote self.old (Text.pairs members.now rounds.now) self.new }
     {
         for (&member, &round) in members.iter().zip(rounds) {

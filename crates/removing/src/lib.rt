@@ -44,6 +44,7 @@ pub fn remove_all(map: &mut ListOrderedMultimap, k: u64, out: &mut [u64]) -> Res
 pub fn remove_record(map: &mut ListOrderedMultimap, key: KeyPlace)
     ensures { RecordOut map.old key map.new }
 {
+    // Goes along the links by hand, since it changes them as it goes.
     let mut x = map.head(key);
     for _ in 0..map.size(key) {
         let next = links::after(&map.next_index, x);
