@@ -207,8 +207,7 @@ pub fn no_poster(poster: u64) -> bool
 pub fn base(key: KeyPlace) -> ValuePlace
     ensures { result ≡ base_of key }
 {
-    let k = key.index();
-    ValuePlace(if k < 64511 { (1024 + k) as u16 } else { 65535 })
+    ValuePlace(key.to_u16().saturating_add(ROUNDS))
 }
 
 // Makes the map with no place in use that has these limits.
