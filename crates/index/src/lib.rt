@@ -93,9 +93,7 @@ pub fn find<'a>(index: &'a [u16; 512], keys: &'a [u64; 256], member: u64) -> Fou
 pub fn insert(index: &mut [u16; 512], at: usize, key: KeyPlace)
     ensures { index.new ≡ set index.old at key }
 {
-    if at < index.len() {
-        index[at] = key.0;
-    }
+    links::put(index, at, key.0);
 }
 
 // Takes a member out of the index, and closes the gap. A number that the search does not find changes nothing.
