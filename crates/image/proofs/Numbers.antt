@@ -1,7 +1,7 @@
 -- Numbers read from bytes. Assumes nothing.
 use Prim.Native.Nat.{ℕ, zero, suc, ◌+◌, ◌*◌, ◌-◌, ◌/◌, ◌≤◌, ◌<◌}
 use mathlib.Core.Path.{◌≡◌, refl, sym, ap, ◌∙◌}
-use mathlib.Core.List.{List, []}
+use mathlib.Core.List.{List, [], ◌∷◌}
 use native.Mathlib.Omega.{arith}
 use lib.ListN.{length, get_or, take, drop, length-drop}
 use lib.Seq.{get_or-drop, drop-drop, take_all}
@@ -51,17 +51,6 @@ module _ (s : List ℕ) where
 
 -- a number as the library reads it from its bytes
 module _ (s : List ℕ) where
-  pub four_read : from_le_bytes w32 (take 4 s) ≡ number 4 s
-  four_read =
-      omega (
-        arith,
-        four_is s 0,
-        get_or-take 4 s 0 0 (omega arith),
-        get_or-take 4 s 1 0 (omega arith),
-        get_or-take 4 s 2 0 (omega arith),
-        get_or-take 4 s 3 0 (omega arith),
-      )
-
   pub eight_read : from_le_bytes w64 (take 8 s) ≡ number 8 s
   eight_read =
       omega (
@@ -80,8 +69,9 @@ module _ (s : List ℕ) where
       )
 
 -- the size that stands at p
-pub size_read : (s : List ℕ) (p : ℕ) {b : List ℕ} → b ≡ take 4 (drop p s) → {x : ℕ} → x ≡ from_le_bytes w32 b → x ≡ number 4 (drop p s)
-size_read s p e f = f ∙ ap (from_le_bytes w32) e ∙ four_read (drop p s)
+pub size_read : (s : List ℕ) (p : ℕ) {x : ℕ}
+    → x ≡ from_le_bytes w32 (get_or s p 0 ∷ get_or s (p + 1) 0 ∷ get_or s (p + 2) 0 ∷ get_or s (p + 3) 0 ∷ []) → x ≡ number 4 (drop p s)
+size_read s p e = omega (arith, e, four_is s p)
 
 -- ---- numbers of eight bytes
 

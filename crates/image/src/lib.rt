@@ -3,7 +3,7 @@
 
 #![tactic(auto)]
 
-ghost use Rattle.std.specs.Prelude.{◌≡◌, ◌+◌, ◌*◌, ◌≤◌, ℕ, length, take, drop};
+ghost use Rattle.std.specs.Prelude.{◌≡◌, ◌+◌, ◌*◌, ◌≤◌, ℕ, length};
 ghost use Rattle.std.proofs.lemmas.List.Edits.{sets};
 ghost use Rattle.answers.specs.Answers.{answered, done_of};
 ghost use Rattle.steps.specs.Call as C;
@@ -78,11 +78,11 @@ fn put_along(map: &ListOrderedMultimap, out: &mut [u8])
 fn read_sizes(s: &[u8], limits: Limits) -> Result<(usize, u64), Refusal>
     ensures { Said limits s.now result }
 {
-    if s.len() < 8 {
+    let &[a, b, c, d, e, f, g, h, ..] = s else {
         return Err(Refusal::TooShort);
-    }
-    let n = u32::from_le_bytes(bytes_at(s, 0)) as u64;
-    let m = u32::from_le_bytes(bytes_at(s, 4)) as u64;
+    };
+    let n = u32::from_le_bytes([a, b, c, d]) as u64;
+    let m = u32::from_le_bytes([e, f, g, h]) as u64;
     if limits.rounds < n || limits.members < m {
         return Err(Refusal::TooMany);
     }
@@ -109,14 +109,4 @@ fn restore(map: &mut ListOrderedMultimap, s: &[u8], n: usize, m: u64) -> bool
         };
     }
     map.members.len as u64 == m
-}
-
-// Gives the N bytes from `at` on.
-fn bytes_at<const N: usize>(s: &[u8], at: usize) -> [u8; N]
-    requires { at + N ≤ length s.now }
-    ensures { result ≡ take N (drop at s.now) }
-{
-    let mut bytes = [0; N];
-    bytes.copy_from_slice(&s[at..at + N]);
-    bytes
 }

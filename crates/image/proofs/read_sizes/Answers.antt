@@ -5,13 +5,13 @@ use Rattle.image.proofs.Restores.{read_short, says_many, says_length}
 use Rattle.image.proofs.read_sizes.Goals as goal
 use Rattle.image.proofs.read_sizes.Goals.{then-limits-n-via-then-limits-n, then-limits-n-via-else-limits-n+then-limits-m}
 
-pub returns-then-s-lt8 : goal.returns-then-s-lt8
-returns-then-s-lt8 c ok = read_short _ c.args.s.now ok c.if-s-lt8.true
+pub returns-in_default : goal.returns-in_default
+returns-in_default c ok = read_short _ c.args.s.now ok c.in_default.len_below
 
 pub returns-then-limits-n : goal.returns-then-limits-n
 returns-then-limits-n c =
-    says_many _ c.args.s.now c.if-s-lt8.false _ _
-    (size_read c.args.s.now 0 c.bytes_at.ensures c.from_le_bytes-n.ensures) (size_read c.args.s.now 4 c.bytes_at-2.ensures c.from_le_bytes-m.ensures)
+    says_many _ c.args.s.now c.in-len8-up.len_at_least _ _
+    (size_read c.args.s.now 0 c.from_le_bytes-n.ensures) (size_read c.args.s.now 4 c.from_le_bytes-m.ensures)
     (rw (← c.limits.view_is)
     (elim c.then-limits-n.branch [
       | then-limits-n-via-then-limits-n w ↦ rw (lt-ltb _ c.from_le_bytes-n.result w.if-limits-n.true)
@@ -21,16 +21,16 @@ returns-then-limits-n c =
 
 pub returns-then-s-rounds : goal.returns-then-s-rounds
 returns-then-s-rounds c =
-    says_length _ c.args.s.now c.if-s-lt8.false _ _
-    (size_read c.args.s.now 0 c.bytes_at.ensures c.from_le_bytes-n.ensures) (size_read c.args.s.now 4 c.bytes_at-2.ensures c.from_le_bytes-m.ensures)
+    says_length _ c.args.s.now c.in-len8-up.len_at_least _ _
+    (size_read c.args.s.now 0 c.from_le_bytes-n.ensures) (size_read c.args.s.now 4 c.from_le_bytes-m.ensures)
     (rw (← c.limits.view_is) c.if-limits-n.false) (rw (← c.limits.view_is) c.if-limits-m.false) c.if-s-rounds.true
 
 pub returns : goal.returns
 returns c =
     record {
-      enough = c.if-s-lt8.false;
-      rounds = size_read c.args.s.now 0 c.bytes_at.ensures c.from_le_bytes-n.ensures;
-      members = size_read c.args.s.now 4 c.bytes_at-2.ensures c.from_le_bytes-m.ensures;
+      enough = c.in-len8-up.len_at_least;
+      rounds = size_read c.args.s.now 0 c.from_le_bytes-n.ensures;
+      members = size_read c.args.s.now 4 c.from_le_bytes-m.ensures;
       few = rw (← c.limits.view_is) c.if-limits-n.false;
       few_members = rw (← c.limits.view_is) c.if-limits-m.false;
       long = c.if-s-rounds.false;
