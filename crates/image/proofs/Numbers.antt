@@ -97,9 +97,15 @@ chunk_at (suc k) (suc i) s h =
 -- the i-th of the n numbers from p on, as it is read from the part of a slice that begins at p, in pieces of eight bytes
 pub nth_read : (s : List ℕ) (p n i : ℕ) → i < n → p + 8 * n ≤ length s → {cs : List (List ℕ)}
     → cs ≡ first_chunks 8 (length (take (length s - p) (drop p s)) / 8) (take (length s - p) (drop p s))
-    → {x : ℕ} → x ≡ from_le_bytes w64 (get_or cs i []) → x ≡ get_or (numbers n (drop p s)) i 0
-nth_read s p n i h long e f =
+    → {b : List ℕ} → b ≡ get_or cs i [] → {x : ℕ} → x ≡ from_le_bytes w64 b → x ≡ get_or (numbers n (drop p s)) i 0
+nth_read s p n i h long e g f =
     let rest : take (length s - p) (drop p s) ≡ drop p s = take_all (length s - p) (drop p s) (omega (arith, length-drop p s)) in
     let many : i < length (drop p s) / 8 = omega (arith, length-drop p s) in
-    f ∙ ap (λ (l : List (List ℕ)). from_le_bytes w64 (get_or l i [])) (rw rest at e) ∙ ap (from_le_bytes w64) (chunk_at (length (drop p s) / 8) i (drop p s) many)
+    f ∙ ap (from_le_bytes w64) g ∙ ap (λ (l : List (List ℕ)). from_le_bytes w64 (get_or l i [])) (rw rest at e) ∙ ap (from_le_bytes w64) (chunk_at (length (drop p s) / 8) i (drop p s) many)
     ∙ eight_read (drop (8 * i) (drop p s)) ∙ sym (numbers_at n i (drop p s) h)
+
+-- how many pieces of eight bytes there are from p on
+pub many_pieces : (s : List ℕ) (p : ℕ) {c : ℕ} → c ≡ length (take (length s - p) (drop p s)) / 8 → c ≡ (length s - p) / 8
+many_pieces s p e =
+    let rest : take (length s - p) (drop p s) ≡ drop p s = take_all (length s - p) (drop p s) (omega (arith, length-drop p s)) in
+    e ∙ ap (λ (l : List ℕ). length l / 8) rest ∙ ap (λ (c : ℕ). c / 8) (length-drop p s)

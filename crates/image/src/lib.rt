@@ -100,10 +100,9 @@ fn restore(map: &mut ListOrderedMultimap, s: &[u8], n: usize, m: u64) -> bool
 {
     let (ks, _) = s[8..].as_chunks::<8>();
     let (vs, _) = s[8 + 8 * n..].as_chunks::<8>();
-    // Goes by an index, since a `zip` doesn't count the pairs, as the proof does.
-    for i in 0..n {
-        let k = u64::from_le_bytes(ks[i]);
-        let v = u64::from_le_bytes(vs[i]);
+    for (&k, &v) in ks.iter().zip(vs) {
+        let k = u64::from_le_bytes(k);
+        let v = u64::from_le_bytes(v);
         let Ok(_) = adding::append(map, 0, k, v) else {
             return false;
         };

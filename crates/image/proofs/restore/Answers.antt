@@ -1,8 +1,15 @@
 -- `image::restore` meets its contract, by the laws of proofs/Appends.antt and Restores.antt. Assumes nothing.
-use Prim.Native.Nat.{◌+◌, ◌*◌}
+use Prim.Native.Nat.{ℕ, ◌+◌, ◌*◌, ◌<◌, ◌≤◌}
+use mathlib.Core.List.{[], ◌∷◌, ◌++◌}
+use mathlib.Core.Path.{◌≡◌, sym, subst}
 use native.Mathlib.Omega.{arith}
-use Rattle.image.proofs.Numbers.{nth_read}
-use Rattle.image.proofs.Appends.{building_one, building_stuck, building_all}
+use lib.ListN.{length}
+use borrow.Author.Rules.{rules}
+use Rattle.std.proofs.lemmas.List.{length-append}
+use Rattle.std.proofs.lemmas.Slice.Zip.{zip_turn, zip_end}
+use Rattle.multimap.specs.Map.{limits_of}
+use Rattle.image.proofs.Numbers.{nth_read, many_pieces}
+use Rattle.image.proofs.Appends.{Building, building_one, building_stuck, building_all}
 use Rattle.image.proofs.Restores.{restored_many, restored_by}
 use Rattle.image.proofs.restore.Goals as goal
 
@@ -10,26 +17,37 @@ pub returns-in_default : goal.returns-in_default
 returns-in_default c g e =
     let s = c.args.s.now in
     let n = c.args.n in
-    let i = c.loop-i.i in
+    let l = c.loop-k in
     let allowed = g.limited.allowed in
-    let built = c.loop-i.invariant g e in
+    let built = l.invariant g e in
+    let t = zip_turn c.as_chunks.result.0.now c.as_chunks-2.result.0.now l.yielded _ _ c.next.new.self _ (search rules) (search rules) l.yielded_by _ c.in-Some.is c.next.ensures.steps in
+    let h : length l.yielded < n = omega (arith, t.1, c.requires.long, many_pieces s (8 + 8 * n) c.as_chunks-2.ensures.front_len) in
     restored_many _ s allowed c.requires
-    (building_stuck _ s n built allowed.rounds c.requires.few c.loop-i-test.true
-    (nth_read s 8 n i c.loop-i-test.true (omega (arith, c.requires.long)) c.as_chunks.ensures.front c.from_le_bytes-k.ensures)
-    (nth_read s (8 + 8 * n) n i c.loop-i-test.true (omega (arith, c.requires.long)) c.as_chunks-2.ensures.front c.from_le_bytes-v.ensures) (c.in_default.ensures built.linked))
+    (building_stuck _ s n built allowed.rounds c.requires.few h
+    (nth_read s 8 n (length l.yielded) h (omega (arith, c.requires.long)) c.as_chunks.ensures.front (t.2 []) c.from_le_bytes-k.ensures)
+    (nth_read s (8 + 8 * n) n (length l.yielded) h (omega (arith, c.requires.long)) c.as_chunks-2.ensures.front (t.3 []) c.from_le_bytes-v.ensures) (c.in_default.ensures built.linked))
 
-pub loop-i-preserved : goal.loop-i-preserved
-loop-i-preserved c g e =
+pub loop-k-preserved : goal.loop-k-preserved
+loop-k-preserved c g e =
     let s = c.args.s.now in
     let n = c.args.n in
-    let i = c.loop-i.i in
-    let built = c.loop-i.invariant g e in
-    building_one _ s n built g.limited.allowed.rounds c.requires.few c.loop-i-test.true
-    (nth_read s 8 n i c.loop-i-test.true (omega (arith, c.requires.long)) c.as_chunks.ensures.front c.from_le_bytes-k.ensures)
-    (nth_read s (8 + 8 * n) n i c.loop-i-test.true (omega (arith, c.requires.long)) c.as_chunks-2.ensures.front c.from_le_bytes-v.ensures) (c.in-Ok.ensures built.linked)
+    let l = c.loop-k in
+    let built = l.invariant g e in
+    let t = zip_turn c.as_chunks.result.0.now c.as_chunks-2.result.0.now l.yielded _ _ c.next.new.self _ (search rules) (search rules) l.yielded_by _ c.in-Some.is c.next.ensures.steps in
+    let h : length l.yielded < n = omega (arith, t.1, c.requires.long, many_pieces s (8 + 8 * n) c.as_chunks-2.ensures.front_len) in
+    let more : length l.yielded + 1 ≡ length (l.yielded ++ (c.in-Some.field-0-0, c.in-Some.field-0-1) ∷ []) = sym (length-append l.yielded _) in
+    subst (λ (j : ℕ). Building (limits_of c.args.map.now) s n j c.append.new.map) more
+    (building_one _ s n built g.limited.allowed.rounds c.requires.few h
+    (nth_read s 8 n (length l.yielded) h (omega (arith, c.requires.long)) c.as_chunks.ensures.front (t.2 []) c.from_le_bytes-k.ensures)
+    (nth_read s (8 + 8 * n) n (length l.yielded) h (omega (arith, c.requires.long)) c.as_chunks-2.ensures.front (t.3 []) c.from_le_bytes-v.ensures) (c.in-Ok.ensures built.linked))
 
 pub returns : goal.returns
 returns c g e =
-    let built = c.loop-i.invariant g e in
-    restored_by _ c.args.s.now g.limited.allowed c.requires c.loop-i.map built.linked
-    (building_all _ c.args.s.now c.args.n built c.loop-i-test.false)
+    let s = c.args.s.now in
+    let n = c.args.n in
+    let l = c.loop-k in
+    let built = l.invariant g e in
+    let all = zip_end c.as_chunks.result.0.now c.as_chunks-2.result.0.now l.yielded _ _ c.next.new.self _ (search rules) (search rules) l.yielded_by c.in-None.is c.next.ensures.steps in
+    let h : n ≤ length l.yielded =
+    omega (arith, all, c.requires.long, many_pieces s 8 c.as_chunks.ensures.front_len, many_pieces s (8 + 8 * n) c.as_chunks-2.ensures.front_len) in
+    restored_by _ s g.limited.allowed c.requires l.map built.linked (building_all _ s n built h)

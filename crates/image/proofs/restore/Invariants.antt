@@ -1,10 +1,10 @@
-use Rattle.std.specs.Prelude.{◌≡◌}
+use Rattle.std.specs.Prelude.{◌≡◌, length}
 use Rattle.steps.specs.State.{empty}
 use Rattle.multimap.specs.Map.{limits_of, state_of}
 use Rattle.multimap.specs.WellLinked.{WellLinked}
 use Rattle.image.proofs.Appends.{Building}
 use Rattle.image.proofs.restore.Given as goal
 
-abbrev pub invariant-loop-i : goal.invariant-loop-i
-invariant-loop-i l =
-    WellLinked l.initial.map → state_of l.initial.map ≡ empty (limits_of l.initial.map) → Building (limits_of l.initial.map) l.s l.n l.i l.map
+abbrev pub invariant-loop-k : goal.invariant-loop-k
+invariant-loop-k l =
+    WellLinked l.initial.map → state_of l.initial.map ≡ empty (limits_of l.initial.map) → Building (limits_of l.initial.map) l.s l.n (length l.yielded) l.map
