@@ -1,6 +1,6 @@
--- What each call that only reads does of a well-linked map. Assumes nothing.
+-- What each call that only reads does of a well-linked map α; where it is read from a map m, that has the arrays of α. Assumes nothing.
 use Prim.Native.Nat.{ℕ, ◌≤◌, ◌<◌}
-use mathlib.Core.Path.{◌≡◌, refl, sym, ◌∙◌}
+use mathlib.Core.Path.{◌≡◌, refl, sym, ap, ◌∙◌}
 use mathlib.Core.Logic.{◌⊎◌, ⊎_elim}
 use mathlib.Core.Bool.{Bool, true, false, cond, ◌||◌, or-true}
 use mathlib.Core.List.{List, map}
@@ -20,7 +20,7 @@ use Rattle.multimap.specs.Map.{at, pair_at, pairs, rounds_of, state_of}
 use Rattle.multimap.specs.WellLinked.{WellLinked, linked}
 use Rattle.multimap.proofs.Stores.{pair_keys, pair_values, length_pairs, length_members}
 use Rattle.copying.specs.Slices.{along, writing}
-use Rattle.reading.specs.Reads.{pairs_written}
+use Rattle.reading.specs.Reads.{Seen, pairs_written}
 
 -- a call that writes to one slice
 module _ (out : List ℕ) (s : State) where
@@ -75,48 +75,51 @@ module _ (α : ListOrderedMultimap) (g : WellLinked α) where
   does_contains k {b} e = does_stay linked (C.contains_key k) α (say (C.present b)) refl g (rw e)
 
   -- the counts
-  pub does_keys_len : Does linked C.keys_len α (say (count α.members.len)) α
+  pub does_keys_len : {n : ℕ} → n ≡ α.members.len → Does linked C.keys_len α (say (count n)) α
   unfolding step checks act
-  does_keys_len = does_stay linked C.keys_len α (say (count α.members.len)) refl g (rw (length_members α))
+  does_keys_len {n} e = does_stay linked C.keys_len α (say (count n)) refl g (rw (e, length_members α))
 
-  pub does_values_len : Does linked C.values_len α (say (count α.rounds.len)) α
+  pub does_values_len : {n : ℕ} → n ≡ α.rounds.len → Does linked C.values_len α (say (count n)) α
   unfolding step checks act
-  does_values_len = does_stay linked C.values_len α (say (count α.rounds.len)) refl g (rw (length_pairs α))
+  does_values_len {n} e = does_stay linked C.values_len α (say (count n)) refl g (rw (e, length_pairs α))
 
   -- the calls that write to slices
   module _ (a : Answer) (out₀ out : List ℕ) where
     -- copied from the first place on
-    pub does_keys : {q : ℕ} → q ≡ at α.next_key 256 → write a out ≡ writing (along (at α.keys) (at α.next_key) q α.members.len) out₀
-        → Does linked (C.keys out₀) α (write a out) α
-    does_keys i w = does_stay linked (C.keys out₀) α (write a out) refl g (step_keys out₀ (state_of α) ∙ rw (w, i))
+    pub does_keys : (m : ListOrderedMultimap) → Seen (C.keys out₀) m α → {q : ℕ} → q ≡ at m.next_key 256
+        → write a out ≡ writing (along (at m.keys) (at m.next_key) q m.members.len) out₀ → Does linked (C.keys out₀) α (write a out) α
+    does_keys m h i w = does_stay linked (C.keys out₀) α (write a out) refl g (step_keys out₀ (state_of α) ∙ rw (w, i, h.0, h.1, h.2))
 
     pub does_get_all : (k : ℕ) → write a out ≡ writing (St.rounds k (pairs α)) out₀ → Does linked (C.get_all k out₀) α (write a out) α
     does_get_all k w = does_stay linked (C.get_all k out₀) α (write a out) refl g (step_get_all out₀ (state_of α) k ∙ rw w)
 
   -- T, as much as the slice holds
-  pub does_taken : (out₀ : List ℕ) → {n : ℕ} → n ≡ length (take (length out₀) α.taken)
-      → {out : List ℕ} → out ≡ onto α.taken out₀ → Does linked (C.taken out₀) α (write (count n) out) α
+  pub does_taken : (out₀ : List ℕ) {t : List ℕ} → t ≡ α.taken → {n : ℕ} → n ≡ length (take (length out₀) t)
+      → {out : List ℕ} → out ≡ onto t out₀ → Does linked (C.taken out₀) α (write (count n) out) α
   unfolding step checks act
-  does_taken out₀ {n} many {out} e = does_stay linked (C.taken out₀) α (write (count n) out) refl g (rw (many, e))
+  does_taken out₀ same {n} many {out} e = does_stay linked (C.taken out₀) α (write (count n) out) refl g (rw (many, e, same))
 
-  module _ (ks vs : List ℕ) {n : ℕ} (many : n ≡ length (order (rounds_of α))) where
+  module _ (m : ListOrderedMultimap) (ks vs : List ℕ) (h : Seen (C.iter ks vs) m α) {n : ℕ} (many : n ≡ length (order (rounds_of m))) where
+    places : order (rounds_of m) ≡ order (rounds_of α)
+    places = rw (h.3, h.4)
+
     held : length (pairs α) ≡ n
-    held = length-map (order (rounds_of α)) (pair_at α) ∙ sym many
+    held = length-map (order (rounds_of α)) (pair_at α) ∙ sym (many ∙ ap length places)
 
     pub does_iter_short : (length ks < n) ⊎ (length vs < n) → Does linked (C.iter ks vs) α (refusing (C.iter ks vs) 3) α
-    does_iter_short h =
+    does_iter_short s =
         does_stay linked (C.iter ks vs) α (refusing (C.iter ks vs) 3) refl g
         (step_iter_short ks vs (state_of α)
         (⊎_elim (λ (l : length ks < n). rw (lt-ltb (length ks) (length (pairs α)) (rw held l)))
-        (λ (l : length vs < n). rw (lt-ltb (length vs) (length (pairs α)) (rw held l)) (or-true (short ks (pairs α)))) h))
+        (λ (l : length vs < n). rw (lt-ltb (length vs) (length (pairs α)) (rw held l)) (or-true (short ks (pairs α)))) s))
 
     -- copied from the rounds' places
     pub does_iter : n ≤ length ks → n ≤ length vs → {ks' vs' : List ℕ}
-        → ks' ≡ over (map (λ x. at α.keys (at α.key_index x)) (order (rounds_of α))) ks
-        → vs' ≡ over (map (at α.values) (order (rounds_of α))) vs
+        → ks' ≡ over (map (λ x. at m.keys (at m.key_index x)) (order (rounds_of m))) ks
+        → vs' ≡ over (map (at m.values) (order (rounds_of m))) vs
         → Does linked (C.iter ks vs) α (pairs_written (count n) ks' vs') α
     does_iter keys_fit values_fit {ks'} {vs'} e f =
         does_stay linked (C.iter ks vs) α (pairs_written (count n) ks' vs') refl g
         (step_iter ks vs (state_of α)
         (rw (le-ltb (length ks) (length (pairs α)) (rw held keys_fit)) (le-ltb (length vs) (length (pairs α)) (rw held values_fit)))
-        ∙ rw (e, f, pair_keys α, pair_values α, held))
+        ∙ rw (e, f, places, h.0, h.1, h.2, pair_keys α, pair_values α, held))

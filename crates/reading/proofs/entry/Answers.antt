@@ -8,10 +8,11 @@ use Rattle.reading.proofs.entry.Goals as goal
 
 pub returns-in-At-clause-reads : goal.returns-in-At-clause-reads
 returns-in-At-clause-reads c =
-    λ g. does_entry _ g c.args.k
-    (entry_is _ g c.args.k (ap occupied c.size.ensures ∙ ap (entry_by c.args.map.now.lengths c.args.k) (sym c.in-At.is ∙ c.find.ensures)))
+    λ α h g. does_entry α g c.args.k
+    (entry_is α g c.args.k
+    (rw (h.0, h.1, h.2) at (ap occupied c.size.ensures ∙ ap (entry_by c.args.map.now.lengths c.args.k) (sym c.in-At.is ∙ c.find.ensures))))
 
 pub returns-in-Absent-clause-reads : goal.returns-in-Absent-clause-reads
 returns-in-Absent-clause-reads c =
-    λ g. does_entry _ g c.args.k
-    (entry_is _ g c.args.k (ap (entry_by c.args.map.now.lengths c.args.k) (sym c.in-Absent.is ∙ c.find.ensures)))
+    λ α h g. does_entry α g c.args.k
+    (entry_is α g c.args.k (rw (h.0, h.1, h.2) at (ap (entry_by c.args.map.now.lengths c.args.k) (sym c.in-Absent.is ∙ c.find.ensures))))

@@ -11,8 +11,8 @@ use Rattle.reading.proofs.iter.Goals.{then-members-end-via-then-members-end, the
 
 pub returns-then-members-end : goal.returns-then-members-end
 returns-then-members-end c =
-    λ g.
-    does_iter_short _ g c.args.members.now c.args.rounds.now (c.len-end.ensures.value ∙ ap length c.round_places-places.ensures.places)
+    λ α h g.
+    does_iter_short α g c.args.map.now c.args.members.now c.args.rounds.now h (c.len-end.ensures.value ∙ ap length c.round_places-places.ensures.places)
     (elim c.then-members-end.branch [
       | then-members-end-via-then-members-end w ↦ inl w.if-members-end.true
       | then-members-end-via-else-members-end+then-rounds-end w ↦ inr w.if-rounds-end.true
@@ -30,6 +30,6 @@ pub returns : goal.returns
 returns c =
     let inv = c.loop-i.invariant in
     let ended = c.in-None.ensures.steps.0.0 in
-    λ g.
-    does_iter _ g c.args.members.now c.args.rounds.now (c.len-end.ensures.value ∙ ap length c.round_places-places.ensures.places) c.if-members-end.false c.if-rounds-end.false
+    λ α h g.
+    does_iter α g c.args.map.now c.args.members.now c.args.rounds.now h (c.len-end.ensures.value ∙ ap length c.round_places-places.ensures.places) c.if-members-end.false c.if-rounds-end.false
     (all_copied inv.0 ended) (all_copied inv.1 ended)

@@ -3,4 +3,4 @@ use Rattle.reading.proofs.Steps.{does_values_len}
 use Rattle.reading.proofs.values_len.Goals as goal
 
 pub returns : goal.returns
-returns c = λ g. does_values_len _ g
+returns c = λ α h g. does_values_len α g (rw h)

@@ -14,5 +14,5 @@ loop-i-preserved c = one_written c.args.map.now.taken c.args.out.now c.loop-i.i 
 pub returns : goal.returns
 returns c =
     let t = c.args.map.now.taken in
-    λ g. does_taken _ g c.args.out.now (c.min-end.ensures ∙ sym (length-take (length c.args.out.now) t))
+    λ α h g. does_taken α g c.args.out.now h (c.min-end.ensures ∙ sym (length-take (length c.args.out.now) t))
     (all_written t c.args.out.now {i = c.loop-i.i} c.loop-i.invariant (omega (arith, c.min-end.ensures, c.loop-i-test.false)))
