@@ -25,7 +25,7 @@ use Rattle.entries.proofs.Entries.{done_unless, entered, is_occupied, is_vacant,
 module _ (α : ListOrderedMultimap) (g : WellLinked α) (k : ℕ) where
   -- what was answered is the entry
   answer : {a : Answer} → Reads (C.entry k) (say a) α → a ≡ S.entry_of (present k (state_of α)) k (state_of α)
-  answer e = entered k (state_of α) (e g).outcome
+  answer e = entered k (state_of α) (e α (refl, refl, refl) g).outcome
 
   pub there : {n : ℕ} → Reads (C.entry k) (say (occupied n)) α → present k (state_of α) ≡ true
   there e = is_occupied _ k (state_of α) (answer e)
