@@ -15,6 +15,24 @@ pub record Writes (m : ListOrderedMultimap) (out out' ans : List ℕ) : Type 0 w
   pub writes : write answer out' ≡ write_of (state_of m) out
   pub ans_is : ans ≡ coded answer
 
+-- α has the arrays of m that writing an image reads
+abbrev pub Seen : ListOrderedMultimap → ListOrderedMultimap → Type 0
+Seen m α =
+    (m.keys ≡ α.keys)
+    × (m.values ≡ α.values)
+    × (m.key_index ≡ α.key_index)
+    × (m.next_value ≡ α.next_value)
+    × (m.members ≡ α.members)
+    × (m.rounds ≡ α.rounds)
+
+-- the image of every well-linked map that has them is written to `out`, which then holds out', as the definition says: the answer is a
+abbrev pub Imaged : ListOrderedMultimap → (out : List ℕ) → Answer → (out' : List ℕ) → Type 0
+Imaged m out a out' = (α : ListOrderedMultimap) → Seen m α → WellLinked α → write a out' ≡ write_of (state_of α) out
+
+-- so; the answer's numbers are `ans`
+abbrev pub ImagedTold : ListOrderedMultimap → (out out' ans : List ℕ) → Type 0
+ImagedTold m out out' ans = (α : ListOrderedMultimap) → Seen m α → WellLinked α → Writes α out out' ans
+
 -- the bytes s are read into the limits l as the definition says: the answer, and a well-linked map that stands for the state
 pub record Reads (l : Limits) (s : List ℕ) (a : Answer) (m : ListOrderedMultimap) : Type 0 where
   pub answer : a ≡ (read_of l s).0

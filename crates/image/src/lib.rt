@@ -8,20 +8,19 @@ ghost use Rattle.std.proofs.lemmas.List.Edits.{sets};
 ghost use Rattle.answers.specs.Answers.{answered, done_of};
 ghost use Rattle.steps.specs.Call as C;
 ghost use Rattle.steps.specs.State.{empty};
-ghost use Rattle.steps.specs.Step.{over, write};
+ghost use Rattle.steps.specs.Step.{over};
 ghost use Rattle.multimap.specs.Map.{limits_of, state_of};
 ghost use Rattle.multimap.specs.WellLinked.{WellLinked};
 ghost use Rattle.image.specs.Running.{image_in};
-ghost use Rattle.image.specs.Image.{write_of};
-ghost use Rattle.image.specs.Answers.{Reads};
+ghost use Rattle.image.specs.Answers.{Imaged, Reads};
 ghost use Rattle.image.specs.Parts.{RightSizes, Said, Restored};
 
 use answers::Refusal;
 use multimap::{Limits, ListOrderedMultimap};
 
-// Writes the image of a well-linked map to the front of `out`, and says how long it is.
+// Writes the image of the map to the front of `out`, and says how long it is.
 pub fn write_image(map: &ListOrderedMultimap, out: &mut [u8]) -> Result<usize, Refusal>
-    ensures { WellLinked map.now → write (answered C.count result) out.new ≡ write_of (state_of map.now) out.old }
+    ensures { Imaged map.now out.old (answered C.count result) out.new }
 {
     let size = 8 + 16 * map.rounds.len as usize;
     if out.len() < size {

@@ -3,7 +3,7 @@ use Rattle.image.proofs.Images.{write_short, write_done}
 use Rattle.image.proofs.write_image.Goals as goal
 
 pub returns-then-out-size : goal.returns-then-out-size
-returns-then-out-size c = λ g. write_short _ g c.args.out.now c.if-out-size.true
+returns-then-out-size c = λ α h g. write_short c.args.map.now α h g c.args.out.now c.if-out-size.true
 
 pub returns : goal.returns
-returns c = λ g. write_done _ g c.args.out.now c.if-out-size.false c.put_along.ensures
+returns c = λ α h g. write_done c.args.map.now α h g c.args.out.now c.if-out-size.false c.put_along.ensures
