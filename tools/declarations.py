@@ -238,9 +238,9 @@ class Sources:
         return [Function(name, self.parameters(words), self.given(gives), self.promised(clauses))
                 for name, words, gives, clauses in found]
 
-    # The call that a promise names, which is one of the map before and after, with the answer's four numbers.
+    # The call that a promise names, which is one of the map before and after, or of the map that it reads, with the answer's four numbers.
     def promised(self, clauses):
-        calls = re.findall(r'ensures \{ CallsTold (?:\(C\.(\w+)[^)]*\)|C\.(\w+)) ', clauses)
+        calls = re.findall(r'ensures \{ (?:Calls|Reads)Told (?:\(C\.(\w+)[^)]*\)|C\.(\w+)) ', clauses)
         return ''.join(calls[0]) if len(calls) == 1 else ''
 
     def given(self, words):

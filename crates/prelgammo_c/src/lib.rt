@@ -9,9 +9,10 @@ ghost use Rattle.steps.specs.State.{limit};
 ghost use Rattle.steps.specs.Call as C;
 ghost use Rattle.multimap.specs.Making.{Made};
 ghost use Rattle.multimap.specs.WellLinked.{CallsTold, WellLinked};
+ghost use Rattle.reading.specs.Reads.{ReadsTold};
 ghost use Rattle.turn.specs.Turned.{Turned};
 ghost use Rattle.replay.specs.Played.{Played};
-ghost use Rattle.image.specs.Answers.{Writes, Restores};
+ghost use Rattle.image.specs.Answers.{ImagedTold, Restores};
 ghost use Rattle.well_linked.specs.Told.{Tells};
 ghost use Rattle.multimap.specs.declared.ListOrderedMultimap.{ListOrderedMultimap};
 
@@ -202,7 +203,7 @@ pub extern "C" fn om_vacant_insert(
 // Tells the member's first round.
 #[unsafe(no_mangle)]
 pub extern "C" fn om_get(map: &ListOrderedMultimap, k: u64, answer: &mut [u64; 4])
-    ensures { CallsTold (C.get k) map.now map.now [] [] answer.new }
+    ensures { ReadsTold (C.get k) map.now [] [] answer.new }
 {
     answers::tell(answer, Ok(reading::get(map, k)));
 }
@@ -215,7 +216,7 @@ pub extern "C" fn om_get_all(
     out: &mut [u64],
     answer: &mut [u64; 4],
 )
-    ensures { CallsTold (C.get_all k out.old) map.now map.now out.new [] answer.new }
+    ensures { ReadsTold (C.get_all k out.old) map.now out.new [] answer.new }
 {
     answers::tell(answer, reading::get_all(map, k, out));
 }
@@ -223,7 +224,7 @@ pub extern "C" fn om_get_all(
 // Tells the member's entry.
 #[unsafe(no_mangle)]
 pub extern "C" fn om_entry(map: &ListOrderedMultimap, k: u64, answer: &mut [u64; 4])
-    ensures { CallsTold (C.entry k) map.now map.now [] [] answer.new }
+    ensures { ReadsTold (C.entry k) map.now [] [] answer.new }
 {
     answers::tell(answer, Ok(reading::entry(map, k)));
 }
@@ -231,7 +232,7 @@ pub extern "C" fn om_entry(map: &ListOrderedMultimap, k: u64, answer: &mut [u64;
 // Tells how many rounds the member has.
 #[unsafe(no_mangle)]
 pub extern "C" fn om_entry_len(map: &ListOrderedMultimap, k: u64, answer: &mut [u64; 4])
-    ensures { CallsTold (C.entry_len k) map.now map.now [] [] answer.new }
+    ensures { ReadsTold (C.entry_len k) map.now [] [] answer.new }
 {
     answers::tell(answer, Ok(reading::entry_len(map, k)));
 }
@@ -239,7 +240,7 @@ pub extern "C" fn om_entry_len(map: &ListOrderedMultimap, k: u64, answer: &mut [
 // Tells whether the number is a member.
 #[unsafe(no_mangle)]
 pub extern "C" fn om_contains_key(map: &ListOrderedMultimap, k: u64, answer: &mut [u64; 4])
-    ensures { CallsTold (C.contains_key k) map.now map.now [] [] answer.new }
+    ensures { ReadsTold (C.contains_key k) map.now [] [] answer.new }
 {
     answers::tell(answer, Ok(reading::contains_key(map, k)));
 }
@@ -247,7 +248,7 @@ pub extern "C" fn om_contains_key(map: &ListOrderedMultimap, k: u64, answer: &mu
 // Writes the members, in joining order, to the front of `out`, and tells how many.
 #[unsafe(no_mangle)]
 pub extern "C" fn om_keys(map: &ListOrderedMultimap, out: &mut [u64], answer: &mut [u64; 4])
-    ensures { CallsTold (C.keys out.old) map.now map.now out.new [] answer.new }
+    ensures { ReadsTold (C.keys out.old) map.now out.new [] answer.new }
 {
     answers::tell(answer, reading::keys(map, out));
 }
@@ -255,7 +256,7 @@ pub extern "C" fn om_keys(map: &ListOrderedMultimap, out: &mut [u64], answer: &m
 // Tells how many members there are.
 #[unsafe(no_mangle)]
 pub extern "C" fn om_keys_len(map: &ListOrderedMultimap, answer: &mut [u64; 4])
-    ensures { CallsTold C.keys_len map.now map.now [] [] answer.new }
+    ensures { ReadsTold C.keys_len map.now [] [] answer.new }
 {
     answers::tell(answer, Ok(reading::keys_len(map)));
 }
@@ -263,7 +264,7 @@ pub extern "C" fn om_keys_len(map: &ListOrderedMultimap, answer: &mut [u64; 4])
 // Tells how many rounds there are.
 #[unsafe(no_mangle)]
 pub extern "C" fn om_values_len(map: &ListOrderedMultimap, answer: &mut [u64; 4])
-    ensures { CallsTold C.values_len map.now map.now [] [] answer.new }
+    ensures { ReadsTold C.values_len map.now [] [] answer.new }
 {
     answers::tell(answer, Ok(reading::values_len(map)));
 }
@@ -276,7 +277,7 @@ pub extern "C" fn om_iter(
     out2: &mut [u64],
     answer: &mut [u64; 4],
 )
-    ensures { CallsTold (C.iter out.old out2.old) map.now map.now out.new out2.new answer.new }
+    ensures { ReadsTold (C.iter out.old out2.old) map.now out.new out2.new answer.new }
 {
     answers::tell(answer, reading::iter(map, out, out2));
 }
@@ -284,7 +285,7 @@ pub extern "C" fn om_iter(
 // Writes how many rounds were ever taken in, of each of the sixteen posters, and tells that they are sixteen.
 #[unsafe(no_mangle)]
 pub extern "C" fn om_taken(map: &ListOrderedMultimap, out: &mut [u64; 16], answer: &mut [u64; 4])
-    ensures { CallsTold (C.taken out.old) map.now map.now out.new [] answer.new }
+    ensures { ReadsTold (C.taken out.old) map.now out.new [] answer.new }
 {
     answers::tell(answer, Ok(reading::taken(map, out)));
 }
@@ -355,7 +356,7 @@ pub extern "C" fn replay(
 // Writes the image of the map to the front of `out`.
 #[unsafe(no_mangle)]
 pub extern "C" fn om_write_image(map: &ListOrderedMultimap, out: &mut [u8], answer: &mut [u64; 4])
-    ensures { WellLinked map.now → Writes map.now out.old out.new answer.new }
+    ensures { ImagedTold map.now out.old out.new answer.new }
 {
     answers::tell(answer, image::write_image(map, out));
 }
