@@ -1,14 +1,11 @@
 -- A loop that copies along links to the front of a slice, whatever the arrays hold; and what is then written and answered. Assumes nothing.
 use Prim.Native.Nat.{ℕ, ◌+◌, ◌≤◌, ◌<◌}
 use mathlib.Core.Path.{◌≡◌, refl, sym, ap, ◌∙◌}
-use mathlib.Core.List.{List, [], ◌∷◌, ◌++◌, map}
+use mathlib.Core.List.{List, [], ◌∷◌, map}
 use native.Mathlib.Omega.{arith}
-use borrow.Author.Tests.{lt-ltb, le-ltb}
-use lib.ListN.{length, get_or, set, take, drop, length-map, get_or-map}
-use lib.Seq.{length-take-le}
-use Rattle.std.proofs.lemmas.List.{append-nil}
-use Rattle.std.proofs.Math.ListN.{drop_of_length-le}
-use Rattle.steps.specs.Call.{refused, count}
+use borrow.Author.Tests.{lt-ltb}
+use lib.ListN.{length, get_or, set, length-map, get_or-map}
+use Rattle.steps.specs.Call.{refused}
 use Rattle.steps.specs.Step.{write, over}
 use Rattle.links.specs.Route.{walk}
 use Rattle.links.proofs.Lists.{length_walk}
@@ -41,11 +38,6 @@ module _ {P : Type 0} {f : P → ℕ} {xs : List P} {out₀ : List ℕ} {i : ℕ
             (written_one (map f xs) out₀ i (f x) (omega (arith, length-map xs f)) (omega (arith, t.fits)));
       }
 
--- what covers the front of a slice covers its first n
-pub over_front : (l : List ℕ) (n : ℕ) (out : List ℕ) {front : List ℕ} → n ≤ length out → length l ≡ n → front ≡ over l (take n out) → front ++ drop n out ≡ over l out
-over_front l n out h e f =
-    rw (f, e, drop_of_length-le (take n out) {i = n} (omega (arith, length-take-le n out h)), append-nil l)
-
 -- what is written and answered
 module _ {P : Type 0} (f : P → ℕ) (next : P → P) (s : P) (n : ℕ) (out : List ℕ) where
   pub long : length (along f next s n) ≡ n
@@ -53,9 +45,3 @@ module _ {P : Type 0} (f : P → ℕ) (next : P → P) (s : P) (n : ℕ) (out : 
 
   pub writing_none : length out < n → write (refused 3) out ≡ writing (along f next s n) out
   writing_none h = rw (lt-ltb (length out) (length (along f next s n)) (omega (arith, long)))
-
-  pub writing_all : n ≤ length out → (last : List ℕ) → last ≡ over (along f next s n) out
-      → write (count n) last ≡ writing (along f next s n) out
-  writing_all h last e =
-      rw (le-ltb (length out) (length (along f next s n)) (omega (arith, long)))
-      (ap (λ (m : ℕ). write (count m) last) (sym long) ∙ ap (write (count _)) e)

@@ -1,5 +1,5 @@
 -- A list of places that a walk gives one after the other. Assumes nothing.
-use Prim.Native.Nat.{ℕ, suc, ◌+◌, ◌-◌, ◌≤◌, ◌<◌}
+use Prim.Native.Nat.{ℕ, suc, ◌+◌, ◌-◌, ◌<◌}
 use mathlib.Core.Path.{◌≡◌, sym, ap, ◌∙◌}
 use mathlib.Core.List.{List, [], ◌∷◌}
 use native.Mathlib.Omega.{arith}
@@ -8,12 +8,9 @@ use lib.ListN.{length, get_or, drop}
 use lib.Seq.{drop-cons}
 use Rattle.links.specs.Route.{walk}
 
--- a walk of k places of which i are behind: the next one, and none
+-- a walk of k places of which i are behind: the next one
 pub walk_more : {P : Type 0} (n : P → P) (s : P) (k i : ℕ) → i < k → walk n s (k - i) ≡ s ∷ walk n (n s) (k - (i + 1))
 walk_more n s k i h = let e : k - i ≡ suc (k - (i + 1)) = omega arith in ap (walk n s) e
-
-pub walk_done : {P : Type 0} (n : P → P) (s : P) (k i : ℕ) → k ≤ i → walk n s (k - i) ≡ []
-walk_done n s k i h = let e : k - i ≡ 0 = omega arith in ap (walk n s) e
 
 -- of the places xs the first i are given, and ws are left
 pub record Passed {P : Type 0} (xs : List P) (i : ℕ) (ws : List P) : Type 0 where

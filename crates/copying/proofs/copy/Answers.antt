@@ -1,13 +1,13 @@
 -- `copying::copy` meets its contract. The loop's invariant: so many values are copied, and the walk is at the next place. Assumes nothing.
-use Prim.Native.Nat.{ℕ, ◌≤◌, ◌<◌}
+use Prim.Native.Nat.{ℕ, ◌<◌}
 use mathlib.Core.Path.{refl, ap, ◌∙◌}
 use lib.ListN.{get_or}
 use borrow.Author.Rules.{rules}
 use native.Mathlib.Nat.{sub-zero}
 use Rattle.links.specs.Route.{walk}
 use Rattle.links.proofs.Lists.{length_walk}
-use Rattle.links.proofs.Walks.{walk_more, walk_done}
-use Rattle.copying.proofs.Copying.{copying_none, one_copied, all_copied, over_front, long, writing_none, writing_all}
+use Rattle.links.proofs.Walks.{walk_more}
+use Rattle.copying.proofs.Copying.{copying_none, one_copied, writing_none}
 use Rattle.copying.proofs.copy.Goals as goal
 
 pub returns-then-out-end : goal.returns-then-out-end
@@ -22,9 +22,3 @@ loop-slot-preserved g c =
     rw c.after-x.ensures
     (one_copied c.loop-slot.invariant (walk_more _ _ c.args.n _ more) refl refl
     (c.get_or.ensures ∙ ap (λ (i : ℕ). get_or c.args.values.now i 0) c.index.ensures))
-
-pub returns : goal.returns
-returns g c =
-    let none : c.args.n ≤ c.loop-slot.slot-index = search rules in
-    writing_all _ _ _ c.args.n _ c.if-out-end.false _
-    (over_front _ c.args.n c.args.out.now c.if-out-end.false (long _ _ _ c.args.n c.args.out.now) (all_copied c.loop-slot.invariant (walk_done _ _ c.args.n _ none)))
