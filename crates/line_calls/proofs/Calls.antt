@@ -19,7 +19,7 @@ use Rattle.printing.specs.Put.{Put}
 use Rattle.printing.specs.Reply.{text_of, bad_text}
 use Rattle.printing.specs.Said.{Prints}
 use Rattle.line_calls.specs.Answer.{reply, answer_of, idle, refuses, marks_line}
-use Rattle.line_calls.specs.Replied.{Replies}
+use Rattle.line_calls.specs.Replied.{Replies, Seen, Shows}
 use Rattle.printing.proofs.Sayings.{prints_as}
 
 -- the outcome is that of the step, and so is its text
@@ -46,9 +46,10 @@ module _ {l : Line} {c : Call} {m m' : ListOrderedMultimap} {o o2 was out : List
 
 -- a call that only reads leaves it too
 pub shown : {l : Line} {c : Call} {m : ListOrderedMultimap} {o o2 was out : List ℕ} {a : Answer} {n : ℕ} (counted : Lent → ℕ → List ℕ)
-    → answer_of l (state_of m) ≡ reply counted (step c (state_of m)) → Calls c m (record { answer = a; slices = lend o o2 }) m
-    → Prints was (text_of (counted (lend o o2)) a) out n → Replies l m was out m n
-shown counted e d p = replied_when counted e d p (λ wl h. refl)
+    → ((α : ListOrderedMultimap) → answer_of l (state_of α) ≡ reply counted (step c (state_of α)))
+    → ((α : ListOrderedMultimap) → Seen l m α → Calls c α (record { answer = a; slices = lend o o2 }) α)
+    → Prints was (text_of (counted (lend o o2)) a) out n → Shows l m was out n
+shown counted e d p = record { shows = λ α h. replied_when counted (e α) (d α h) p (λ wl h. refl) }
 
 -- what is written to the front is there
 pub put_over : {was x out : List ℕ} {r : ℕ} → Put was 0 x out r → length x ≤ length was → out ≡ over x was

@@ -6,7 +6,7 @@
 ghost use Rattle.std.specs.Prelude.{◌≡◌, map as mapped};
 ghost use Rattle.parsing.specs.Line as Line;
 ghost use Rattle.line_calls.specs.Answer.{marks_line};
-ghost use Rattle.line_calls.specs.Replied.{Replies};
+ghost use Rattle.line_calls.specs.Replied.{Replies, Shows};
 
 use multimap::ListOrderedMultimap;
 use parsing::MAX_LINE;
@@ -61,7 +61,7 @@ pub fn keeps(map: &mut ListOrderedMultimap, bytes: &[u8], out: &mut [u8]) -> usi
 }
 
 pub fn lists(map: &ListOrderedMultimap, out: &mut [u8]) -> usize
-    ensures { Replies Line.lists map.now out.old out.new map.now result }
+    ensures { Shows Line.lists map.now out.old out.new result }
 {
     let mut members = [0; 1024];
     let mut rounds = [0; 1024];
@@ -70,7 +70,7 @@ pub fn lists(map: &ListOrderedMultimap, out: &mut [u8]) -> usize
 }
 
 pub fn members_line(map: &ListOrderedMultimap, out: &mut [u8]) -> usize
-    ensures { Replies Line.members map.now out.old out.new map.now result }
+    ensures { Shows Line.members map.now out.old out.new result }
 {
     let mut members = [0; 1024];
     let outcome = reading::keys(map, &mut members);
