@@ -1,10 +1,10 @@
 -- What the call of a line did, and how its answer is printed.
 use Rattle.std.specs.Prelude.{ℕ, ◌<◌, ◌≡◌, true, List}
+use Rattle.steps.specs.Call as C
 use Rattle.multimap.specs.Map.{state_of}
 use Rattle.multimap.specs.WellLinked.{WellLinked}
 use Rattle.multimap.specs.declared.ListOrderedMultimap.{ListOrderedMultimap}
 use Rattle.reading.specs.Reads as R
-use Rattle.steps.specs.Call as C
 use Rattle.parsing.specs.Line.{Line, lists, members}
 use Rattle.printing.specs.Said.{Prints, Roomy, max_printed}
 use Rattle.line_calls.specs.Answer.{answer_of, blank, idle}

@@ -1,4 +1,5 @@
-// The calls that only read. What each answers and writes is the step's of every well-linked map; no function has a premise.
+// The calls that only read. What each answers and writes is the step's of every well-linked map that has the arrays which it reads; no function has
+// a premise.
 
 #![tactic(auto)]
 
