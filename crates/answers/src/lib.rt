@@ -163,8 +163,8 @@ pub fn tell<A: IntoAnswer>(numbers: &mut [u64; 4], outcome: Result<A, Refusal>)
 pub fn read(numbers: [u64; 4]) -> Result<Answer, u64>
     ensures { numbered result ≡ decoded numbers }
 {
-    let n = numbers[1];
-    match numbers[0] {
+    let [kind, n, round, gone] = numbers;
+    match kind {
         0 => Err(n),
         1 => Ok(Answer::Nothing),
         2 => Ok(Answer::Done),
@@ -173,8 +173,8 @@ pub fn read(numbers: [u64; 4]) -> Result<Answer, u64>
         5 => Ok(Answer::Present(n == 1)),
         6 => Ok(Answer::Popped(Popped {
             member: n,
-            round: numbers[2],
-            gone: numbers[3] == 1,
+            round,
+            gone: gone == 1,
         })),
         7 => Ok(Answer::Occupied(n)),
         8 => Ok(Answer::Vacant(n)),
