@@ -163,21 +163,20 @@ pub fn tell<A: IntoAnswer>(numbers: &mut [u64; 4], outcome: Result<A, Refusal>)
 pub fn read(numbers: [u64; 4]) -> Result<Answer, u64>
     ensures { numbered result ≡ decoded numbers }
 {
-    let [kind, n, round, gone] = numbers;
-    match kind {
-        0 => Err(n),
-        1 => Ok(Answer::Nothing),
-        2 => Ok(Answer::Done),
-        3 => Ok(Answer::Round(n)),
-        4 => Ok(Answer::Count(n)),
-        5 => Ok(Answer::Present(n == 1)),
-        6 => Ok(Answer::Popped(Popped {
-            member: n,
+    match numbers {
+        [0, n, ..] => Err(n),
+        [1, ..] => Ok(Answer::Nothing),
+        [2, ..] => Ok(Answer::Done),
+        [3, v, ..] => Ok(Answer::Round(v)),
+        [4, n, ..] => Ok(Answer::Count(n)),
+        [5, b, ..] => Ok(Answer::Present(b == 1)),
+        [6, member, round, gone] => Ok(Answer::Popped(Popped {
+            member,
             round,
             gone: gone == 1,
         })),
-        7 => Ok(Answer::Occupied(n)),
-        8 => Ok(Answer::Vacant(n)),
+        [7, n, ..] => Ok(Answer::Occupied(n)),
+        [8, k, ..] => Ok(Answer::Vacant(k)),
         _ => Ok(Answer::Nothing),
     }
 }
