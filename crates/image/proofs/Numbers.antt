@@ -1,5 +1,5 @@
 -- Numbers read from bytes. Assumes nothing.
-use Prim.Native.Nat.{ℕ, zero, suc, ◌+◌, ◌*◌, ◌-◌, ◌/◌, ◌≤◌, ◌<◌}
+use Prim.Native.Nat.{ℕ, zero, suc, ◌+◌, ◌*◌, ◌-◌, ◌/◌, ◌≤◌, ◌<◌, min}
 use mathlib.Core.Path.{◌≡◌, refl, sym, ap, ◌∙◌}
 use mathlib.Core.List.{List, [], ◌∷◌}
 use native.Mathlib.Omega.{arith}
@@ -109,3 +109,8 @@ pub many_pieces : (s : List ℕ) (p : ℕ) {c : ℕ} → c ≡ length (take (len
 many_pieces s p e =
     let rest : take (length s - p) (drop p s) ≡ drop p s = take_all (length s - p) (drop p s) (omega (arith, length-drop p s)) in
     e ∙ ap (λ (l : List ℕ). length l / 8) rest ∙ ap (λ (c : ℕ). c / 8) (length-drop p s)
+
+-- the pairs of pieces from 8 and from 8 + 8 * n on are n or more
+pub all_pairs : (s : List ℕ) (n : ℕ) {a b i : ℕ} → length s ≡ 8 + 16 * n → a ≡ length (take (length s - 8) (drop 8 s)) / 8
+    → b ≡ length (take (length s - (8 + 8 * n)) (drop (8 + 8 * n) s)) / 8 → i ≡ min a b → n ≤ i
+all_pairs s n long e f h = omega (arith, long, h, many_pieces s 8 e, many_pieces s (8 + 8 * n) f)

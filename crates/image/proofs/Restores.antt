@@ -1,12 +1,12 @@
 -- What `read_image` gives is what the definition says. Assumes nothing.
 use Prim.Native.Nat.{ℕ, ◌+◌, ◌*◌, ◌≤◌, ◌<◌}
 use mathlib.Core.Path.{◌≡◌, refl, sym, ap, ◌∙◌, subst}
-use mathlib.Core.Logic.{◌≢◌, ⊎_elim}
+use mathlib.Core.Logic.{◌≢◌}
 use mathlib.Core.Bool.{Bool, true, false, ◌||◌}
 use mathlib.Core.List.{List, [], ◌∷◌, map}
 use native.Mathlib.Omega.{arith}
 use borrow.Author.Tests.{eq-eqb, ne_eqb, lt-ltb, le-ltb}
-use lib.Dec.{eqb, ltb}
+use lib.Dec.{ltb}
 use lib.ListN.{length, drop}
 use Rattle.steps.specs.State.{State, Limits, limit, Pair, empty}
 use Rattle.steps.specs.Marked.{firsts, start}
@@ -14,7 +14,6 @@ use Rattle.steps.specs.Call.{Answer, refused, done}
 use Rattle.steps.specs.Step.{too_high, make_of}
 use Rattle.steps.specs.Proper.{Allowed}
 use Rattle.steps.proofs.Limits.{allowed, not_too_high, made_refused, made_done, made_with}
-use Rattle.links.proofs.Routes.{same_or_not}
 use Rattle.multimap.specs.declared.ListOrderedMultimap.{ListOrderedMultimap}
 use Rattle.multimap.specs.Map.{limits_of, state_of}
 use Rattle.multimap.specs.Making.{Makes}
@@ -23,7 +22,7 @@ use Rattle.multimap.proofs.Stores.{length_members}
 use Rattle.image.specs.Bytes.{numbers}
 use Rattle.image.specs.Image.{rounds_said, members_said, pair_up, pairs_in, reading, read_of}
 use Rattle.image.specs.Answers.{Reads}
-use Rattle.image.specs.Parts.{RightSizes, Restored}
+use Rattle.image.specs.Parts.{RightSizes}
 
 -- ---- members and rounds as pairs
 
@@ -119,13 +118,12 @@ module _ (l : Limits) (s : List ℕ) where
       counted : r.members.len ≡ length (firsts [] (pairs_in s))
       counted = sym (length_members r) ∙ ap (λ (t : State). length t.members) state
 
-      -- m members or not
-      pub restored_by : Restored l s (eqb r.members.len m) r
-      restored_by =
-          ⊎_elim (λ (u : r.members.len ≡ m). rw (eq-eqb r.members.len m u)
-          (reads_as l s r done (start l (pairs_in s)) g state (read_whole ok z.enough small right (sym z.members ∙ sym u ∙ counted))))
-          (λ (u : r.members.len ≢ m). rw (ne_eqb r.members.len m u) (read_members ok z.enough small right (λ v. u (counted ∙ sym v ∙ sym z.members))))
-          (same_or_not r.members.len m)
+      -- m members, or not
+      pub restored_all : r.members.len ≡ m → Reads l s done r
+      restored_all u = reads_as l s r done (start l (pairs_in s)) g state (read_whole ok z.enough small right (sym z.members ∙ sym u ∙ counted))
+
+      pub restored_other : r.members.len ≢ m → read_of l s ≡ (refused 14, empty l)
+      restored_other u = read_members ok z.enough small right (λ v. u (counted ∙ sym v ∙ sym z.members))
 
 -- ---- the map that is made first
 
@@ -181,8 +179,8 @@ module _ {l : Limits} {m : ListOrderedMultimap} {a : Answer} (k : Makes l a m) w
     reads_done {r} p = subst (λ (x : Limits). Reads x s done r) (limits ok) (p k.linked made_new)
 
     -- by the number of members: the map is made once more
-    pub reads_members : (WellLinked m → state_of m ≡ empty (limits_of m) → read_of (limits_of m) s ≡ (refused 14, empty (limits_of m)))
-        → {r : ListOrderedMultimap} → WellLinked r → state_of r ≡ (make_of l).1 → Reads l s (refused 14) r
-    reads_members p {r} g i =
-        reads_as l s r (refused 14) (empty l) g (i ∙ ap (λ (t : Answer × State). t.1) (made_with l ok))
-        (subst (λ (x : Limits). read_of x s ≡ (refused 14, empty x)) (limits ok) (p k.linked made_new))
+    pub reads_members : {n : ℕ} → (WellLinked m → state_of m ≡ empty (limits_of m) → read_of (limits_of m) s ≡ (refused n, empty (limits_of m)))
+        → {r : ListOrderedMultimap} → WellLinked r → state_of r ≡ (make_of l).1 → Reads l s (refused n) r
+    reads_members {n} p {r} g i =
+        reads_as l s r (refused n) (empty l) g (i ∙ ap (λ (t : Answer × State). t.1) (made_with l ok))
+        (subst (λ (x : Limits). read_of x s ≡ (refused n, empty x)) (limits ok) (p k.linked made_new))

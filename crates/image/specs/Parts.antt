@@ -1,5 +1,5 @@
 -- What the parts of reading promise each other.
-use Rattle.std.specs.Prelude.{ℕ, ◌+◌, ◌*◌, ◌≤◌, ◌≡◌, Bool, true, false, List, Result, Ok, Err, length}
+use Rattle.std.specs.Prelude.{ℕ, ◌+◌, ◌*◌, ◌≤◌, ◌≡◌, List, Result, Ok, Err, length}
 use Rattle.steps.specs.State.{Limits, empty}
 use Rattle.steps.specs.Proper.{Allowed}
 use Rattle.steps.specs.Call.{refused, done}
@@ -23,7 +23,7 @@ abbrev pub Said : Limits → List ℕ → Result (ℕ × ℕ) Refusal → Type 0
 Said l s (Ok p) = RightSizes l s p.0 p.1
 Said l s (Err r) = Allowed l → read_of l s ≡ (refused (number_of r), empty l)
 
--- s is read as m; or its reading is refused by 14
-abbrev pub Restored : Limits → List ℕ → Bool → ListOrderedMultimap → Type 0
-Restored l s true m = Reads l s done m
-Restored l s false m = read_of l s ≡ (refused 14, empty l)
+-- s is read as m; or its reading is refused
+abbrev pub Restored : Limits → List ℕ → Result (Unit {0}) Refusal → ListOrderedMultimap → Type 0
+Restored l s (Ok u) m = Reads l s done m
+Restored l s (Err r) m = read_of l s ≡ (refused (number_of r), empty l)

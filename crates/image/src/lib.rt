@@ -40,11 +40,11 @@ pub fn read_image(
 {
     packing::new(map, limits)?;
     let (n, m) = read_sizes(bytes, limits)?;
-    if restore(map, bytes, n, m) {
-        return Ok(());
+    if let Err(refusal) = restore(map, bytes, n, m) {
+        *map = multimap::new(limits);
+        return Err(refusal);
     }
-    *map = multimap::new(limits);
-    Err(Refusal::WrongMembers)
+    Ok(())
 }
 
 // Stores bytes from `at` on.
@@ -92,8 +92,8 @@ fn read_sizes(s: &[u8], limits: Limits) -> Result<(usize, u64), Refusal>
     Ok((rounds, m))
 }
 
-// Appends the n pairs of an image to a new map. The answer is whether there was room for all of their members, and these are m.
-fn restore(map: &mut ListOrderedMultimap, s: &[u8], n: usize, m: u64) -> bool
+// Appends the n pairs of an image to a new map. Refuses where there is no room for all of their members, or these are not m.
+fn restore(map: &mut ListOrderedMultimap, s: &[u8], n: usize, m: u64) -> Result<(), Refusal>
     requires { RightSizes (limits_of map.old) s.now n m }
     ensures { WellLinked map.old → state_of map.old ≡ empty (limits_of map.old) → Restored (limits_of map.old) s.now result map.new }
 {
@@ -103,8 +103,11 @@ fn restore(map: &mut ListOrderedMultimap, s: &[u8], n: usize, m: u64) -> bool
         let k = u64::from_le_bytes(k);
         let v = u64::from_le_bytes(v);
         let Ok(_) = adding::append(map, 0, k, v) else {
-            return false;
+            return Err(Refusal::WrongMembers);
         };
     }
-    map.members.len as u64 == m
+    if map.members.len as u64 != m {
+        return Err(Refusal::WrongMembers);
+    }
+    Ok(())
 }

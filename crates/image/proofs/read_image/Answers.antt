@@ -18,9 +18,9 @@ returns-in_err-n c =
 pub restore-requires : goal.restore-requires
 restore-requires c = right_of c.in_ok-new.ensures (made_allowed c.in_ok-new.ensures refl) c.args.bytes.now c.in_ok-n.ensures
 
-pub returns-then-restore : goal.returns-then-restore
-returns-then-restore c = reads_done c.in_ok-new.ensures (made_allowed c.in_ok-new.ensures refl) c.args.bytes.now c.if-restore.ensures
+pub returns-in-Err : goal.returns-in-Err
+returns-in-Err c =
+    reads_members c.in_ok-new.ensures (made_allowed c.in_ok-new.ensures refl) c.args.bytes.now c.in-Err.ensures c.new-in-Err.ensures.0 c.new-in-Err.ensures.1
 
 pub returns : goal.returns
-returns c =
-    reads_members c.in_ok-new.ensures (made_allowed c.in_ok-new.ensures refl) c.args.bytes.now c.if-restore.ensures c.new-2.ensures.0 c.new-2.ensures.1
+returns c = reads_done c.in_ok-new.ensures (made_allowed c.in_ok-new.ensures refl) c.args.bytes.now c.in_default.ensures

@@ -1,5 +1,5 @@
 -- `image::restore` meets its contract, by the laws of proofs/Appends.antt and Restores.antt. Assumes nothing.
-use Prim.Native.Nat.{ℕ, ◌+◌, ◌*◌, ◌<◌, ◌≤◌}
+use Prim.Native.Nat.{ℕ, ◌+◌, ◌*◌, ◌<◌}
 use mathlib.Core.List.{[], ◌∷◌, ◌++◌}
 use mathlib.Core.Path.{◌≡◌, sym, subst}
 use native.Mathlib.Omega.{arith}
@@ -8,9 +8,9 @@ use borrow.Author.Rules.{rules}
 use Rattle.std.proofs.lemmas.List.{length-append}
 use Rattle.std.proofs.lemmas.Slice.Zip.{zip_turn, zip_end}
 use Rattle.multimap.specs.Map.{limits_of}
-use Rattle.image.proofs.Numbers.{nth_read, many_pieces}
+use Rattle.image.proofs.Numbers.{nth_read, many_pieces, all_pairs}
 use Rattle.image.proofs.Appends.{Building, building_one, building_stuck, building_all}
-use Rattle.image.proofs.Restores.{restored_many, restored_by}
+use Rattle.image.proofs.Restores.{restored_many, restored_all, restored_other}
 use Rattle.image.proofs.restore.Goals as goal
 
 pub returns-in_default : goal.returns-in_default
@@ -41,6 +41,16 @@ loop-k-preserved c g e =
     (nth_read s 8 n (length l.yielded) h (omega (arith, c.requires.long)) c.as_chunks.ensures.front (t.2 []) c.from_le_bytes-k.ensures)
     (nth_read s (8 + 8 * n) n (length l.yielded) h (omega (arith, c.requires.long)) c.as_chunks-2.ensures.front (t.3 []) c.from_le_bytes-v.ensures) (c.in-Ok.ensures built.linked))
 
+pub returns-then-map-m : goal.returns-then-map-m
+returns-then-map-m c g e =
+    let s = c.args.s.now in
+    let n = c.args.n in
+    let l = c.loop-k in
+    let built = l.invariant g e in
+    let all = zip_end c.as_chunks.result.0.now c.as_chunks-2.result.0.now l.yielded _ _ c.next.new.self _ (search rules) (search rules) l.yielded_by c.in-None.is c.next.ensures.steps in
+    restored_other _ s g.limited.allowed c.requires l.map built.linked
+    (building_all _ s n built (all_pairs s n c.requires.long c.as_chunks.ensures.front_len c.as_chunks-2.ensures.front_len all)) c.if-map-m.true
+
 pub returns : goal.returns
 returns c g e =
     let s = c.args.s.now in
@@ -48,6 +58,5 @@ returns c g e =
     let l = c.loop-k in
     let built = l.invariant g e in
     let all = zip_end c.as_chunks.result.0.now c.as_chunks-2.result.0.now l.yielded _ _ c.next.new.self _ (search rules) (search rules) l.yielded_by c.in-None.is c.next.ensures.steps in
-    let h : n ≤ length l.yielded =
-    omega (arith, all, c.requires.long, many_pieces s 8 c.as_chunks.ensures.front_len, many_pieces s (8 + 8 * n) c.as_chunks-2.ensures.front_len) in
-    restored_by _ s g.limited.allowed c.requires l.map built.linked (building_all _ s n built h)
+    restored_all _ s g.limited.allowed c.requires l.map built.linked
+    (building_all _ s n built (all_pairs s n c.requires.long c.as_chunks.ensures.front_len c.as_chunks-2.ensures.front_len all)) c.if-map-m.false
