@@ -167,11 +167,11 @@ fn copy_rounds(
 fn seat(map: &mut ListOrderedMultimap, numbers: &[u64])
     ensures { Seated numbers.now (limits_of map.old) 0 map.old → Apart numbers.now (length numbers.now) → Seated numbers.now (limits_of map.old) (length numbers.now) map.new }
 {
-    for k in numbers {
-        let Found::Absent(at, _) = map.find(*k) else {
+    for &k in numbers {
+        let Found::Absent(at, _) = map.find(k) else {
             return;
         };
-        changing::join(map, *k, at);
+        changing::join(map, k, at);
     }
 }
 
@@ -179,7 +179,7 @@ fn seat(map: &mut ListOrderedMultimap, numbers: &[u64])
 fn fill(map: &mut ListOrderedMultimap, owners: &[KeyPlace], scores: &[u64])
     ensures { Fillable owners.now (length owners.now) map.old → length scores.now ≡ length owners.now → Filled map.old owners.now scores.now (length owners.now) map.new }
 {
-    for (owner, v) in owners.iter().zip(scores) {
-        changing::add(map, 0, *owner, *v);
+    for (&owner, &v) in owners.iter().zip(scores) {
+        changing::add(map, 0, owner, v);
     }
 }

@@ -15,7 +15,7 @@ loop-owner-preserved c =
     λ g same.
     let l = c.loop-owner in
     let t = zip_turn c.args.owners.now c.args.scores.now l.yielded _ _ c.next.new.self _ (search rules) (search rules) l.yielded_by _ c.in-Some.is c.next.ensures.steps in
-    let e : length l.yielded + 1 ≡ length (l.yielded ++ (c.in-Some.owner, c.in-Some.v) ∷ []) = sym (length-append l.yielded _) in
+    let e : length l.yielded + 1 ≡ length (l.yielded ++ (c.in-Some.field-0-0, c.in-Some.field-0-1) ∷ []) = sym (length-append l.yielded _) in
     subst (λ (j : ℕ). Filled c.args.map.now c.args.owners.now c.args.scores.now j c.add.new.map) e
     (fills_more c.args.owners.now c.args.scores.now _ c.args.map.now g (length l.yielded) l.map (l.invariant g same)
     t.0 (t.2 0) (t.3 0) c.add.ensures)
