@@ -175,8 +175,9 @@ fn turn(
     requires { Ready h.op out.old out2.old × (length ans.old ≡ 4) }
     ensures { CallsTold (call_of h.op h.poster h.k h.v out.old out2.old marks.now) map.old map.new out.new out2.new ans.new }
 {
+    let Some(ans) = ans.as_mut_array() else {
+        unreachable!()
+    };
     let outcome = turn::call(map, h.op, h.poster, h.k, h.v, out, out2, marks);
-    let mut told = [0u64; 4];
-    answers::tell(&mut told, outcome);
-    ans.copy_from_slice(&told);
+    answers::tell(ans, outcome);
 }
