@@ -69,6 +69,7 @@ fn print_parts(parts: &mut Parts, page: &mut Page)
     let mut marks = [0u8; 8192];
     let mut answers = [0u64; 32768];
     read_numbers(parts.next_part(), &mut limits);
+    let [members, rounds] = limits;
     let c = read_numbers(parts.next_part(), &mut calls);
     let o = read_numbers(parts.next_part(), &mut outs);
     let o2 = read_numbers(parts.next_part(), &mut outs2);
@@ -76,10 +77,7 @@ fn print_parts(parts: &mut Parts, page: &mut Page)
     let a = read_numbers(parts.next_part(), &mut answers);
     print_run(
         page,
-        Limits {
-            members: limits[0],
-            rounds: limits[1],
-        },
+        Limits { members, rounds },
         &calls[..c],
         &mut outs[..o],
         &mut outs2[..o2],
