@@ -3,20 +3,14 @@ use Prim.Native.Nat.{ℕ, zero, suc, ◌+◌, ◌≤◌, ◌<◌}
 use mathlib.Core.Path.{◌≡◌, refl, sym, ap, ap₂, ◌∙◌}
 use mathlib.Core.List.{List, [], ◌∷◌, ◌++◌}
 use native.Mathlib.Omega.{arith}
-use borrow.Author.Tests.{lt-ltb, le-ltb}
-use lib.ListN.{length, get_or, replicate, take, length-take, length-drop, drop_of_length-le}
+use borrow.Author.Tests.{lt-ltb}
+use lib.ListN.{length, get_or, replicate, length-take, length-drop, drop_of_length-le}
 use Rattle.steps.specs.State.{Limits, limit}
-use Rattle.multimap.specs.declared.ListOrderedMultimap.{ListOrderedMultimap}
-use Rattle.replay.specs.Played.{Played}
 use Rattle.parsing.specs.Split.{gap, Held}
 use Rattle.tapes.specs.Parts.{part_of, rest_of, left_after}
-use Rattle.tapes.specs.Printed.{left_text, run_text, limits_in, parts_text, lists_after, first_lists, list_text, lists_text}
-use Rattle.tapes.proofs.Holds.{held_at, Coming, come_all, come_less, come_none}
+use Rattle.tapes.specs.Printed.{run_text, limits_in, parts_text, lists_after, first_lists, list_text, lists_text}
+use Rattle.tapes.proofs.Holds.{held_at, Coming, come_less, come_none}
 use Rattle.parsing.proofs.Gaps.{gap_le}
-
--- what was read of a part, as far as the slice is long
-pub front_of : {x y was now : List ℕ} {r : ℕ} (n : ℕ) → Held x was 0 now r → length was ≡ n → x ≡ y → take r now ≡ take n y
-front_of {x} {y} {was} {now} {r} n h l e = h.front ∙ ap (λ (k : ℕ). take k x) l ∙ ap (take n) e
 
 -- the limits that were read of a part
 pub limits_of : {x y now : List ℕ} {r : ℕ} → Held x (replicate 2 0) 0 now r → x ≡ y → limit (get_or now 0 0) (get_or now 1 0) ≡ limits_in y

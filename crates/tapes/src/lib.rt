@@ -12,7 +12,7 @@ ghost use Rattle.tapes.specs.Parts.{left_after};
 ghost use Rattle.tapes.specs.Printed.{left_text, run_text, parts_text, list_text, lists_after, lists_text};
 
 use multimap::Limits;
-use parts::{Parts, read_marks, read_numbers};
+use parts::{Parts, marks_in, numbers_in, read_numbers};
 use rows::Page;
 
 // Runs the lists of the text one after the other, and prints them to the front of `out`, as far as there is room. Answers how many bytes it wrote.
@@ -70,19 +70,19 @@ fn print_parts(parts: &mut Parts, page: &mut Page)
     let mut answers = [0u64; 32768];
     read_numbers(parts.next_part(), &mut limits);
     let [members, rounds] = limits;
-    let c = read_numbers(parts.next_part(), &mut calls);
-    let o = read_numbers(parts.next_part(), &mut outs);
-    let o2 = read_numbers(parts.next_part(), &mut outs2);
-    let m = read_marks(parts.next_part(), &mut marks);
-    let a = read_numbers(parts.next_part(), &mut answers);
+    let calls = numbers_in(parts.next_part(), &mut calls);
+    let outs = numbers_in(parts.next_part(), &mut outs);
+    let outs2 = numbers_in(parts.next_part(), &mut outs2);
+    let marks = marks_in(parts.next_part(), &mut marks);
+    let answers = numbers_in(parts.next_part(), &mut answers);
     print_run(
         page,
         Limits { members, rounds },
-        &calls[..c],
-        &mut outs[..o],
-        &mut outs2[..o2],
-        &marks[..m],
-        &mut answers[..a],
+        calls,
+        outs,
+        outs2,
+        marks,
+        answers,
     );
 }
 

@@ -1,5 +1,5 @@
 // The parts of a list's text, and their numbers and marks.
-ghost use Rattle.std.specs.Prelude.{◌-◌, ◌≤◌, ◌≡◌};
+ghost use Rattle.std.specs.Prelude.{◌-◌, ◌≤◌, ◌≡◌, length, take};
 ghost use Rattle.parsing.specs.Split.{Held};
 ghost use Rattle.tapes.specs.Parts.{part_of, rest_of, grown, numbers_of, marks_of};
 
@@ -22,6 +22,22 @@ impl<'a> Parts<'a> {
     }
 }
 
+// Reads the numbers of a text to the front of `room`, as far as there is room, and refers to them.
+pub(crate) fn numbers_in<'a>(s: &[u8], room: &'a mut [u64]) -> &'a mut [u64]
+    ensures { result.now ≡ take (length room.old) (numbers_of s.now) }
+{
+    let count = read_numbers(s, room);
+    &mut room[..count]
+}
+
+// Reads the marks of a text likewise.
+pub(crate) fn marks_in<'a>(s: &[u8], room: &'a mut [u8]) -> &'a [u8]
+    ensures { result.now ≡ take (length room.old) (marks_of s.now) }
+{
+    let count = read_marks(s, room);
+    &room[..count]
+}
+
 pub(crate) fn read_numbers(s: &[u8], numbers: &mut [u64]) -> usize
     ensures { Held (numbers_of s.now) numbers.old 0 numbers.new result }
 {
@@ -38,7 +54,7 @@ pub(crate) fn read_numbers(s: &[u8], numbers: &mut [u64]) -> usize
     parsing::hold(begun.as_slice(), numbers, count)
 }
 
-pub(crate) fn read_marks(s: &[u8], marks: &mut [u8]) -> usize
+fn read_marks(s: &[u8], marks: &mut [u8]) -> usize
     ensures { Held (marks_of s.now) marks.old 0 marks.new result }
 {
     let mut count = 0;

@@ -1,8 +1,11 @@
 -- `tapes::print_parts` meets its contract. Assumes nothing.
-use mathlib.Core.Path.{ap, ◌∙◌, refl}
+use Prim.Native.Nat.{ℕ}
+use mathlib.Core.List.{List}
+use mathlib.Core.Path.{ap, ◌∙◌}
+use lib.ListN.{take}
 use Rattle.tapes.specs.Parts.{part_of, rest_of, numbers_of, marks_of}
 use Rattle.tapes.proofs.Holds.{kept_as}
-use Rattle.tapes.proofs.Lists.{front_of, limits_of, run_same}
+use Rattle.tapes.proofs.Lists.{limits_of, run_same}
 use Rattle.tapes.proofs.print_parts.Goals as goal
 
 pub returns : goal.returns
@@ -17,10 +20,10 @@ returns c =
           kept_as c.print_run.ensures
           (run_same
           (limits_of c.read_numbers.ensures (ap numbers_of c.next_part.ensures.part))
-          (front_of 57344 c.read_numbers-c.ensures refl (ap numbers_of (c.next_part-2.ensures.part ∙ ap part_of e2)))
-          (front_of 8192 c.read_numbers-o.ensures refl (ap numbers_of (c.next_part-3.ensures.part ∙ ap part_of e3)))
-          (front_of 8192 c.read_numbers-o2.ensures refl (ap numbers_of (c.next_part-4.ensures.part ∙ ap part_of e4)))
-          (front_of 8192 c.read_marks-m.ensures refl (ap marks_of (c.next_part-5.ensures.part ∙ ap part_of e5)))
-          (front_of 32768 c.read_numbers-a.ensures refl (ap numbers_of (c.next_part-6.ensures.part ∙ ap part_of e6))));
+          (c.numbers_in-calls.ensures ∙ ap (λ (l : List ℕ). take 57344 (numbers_of l)) (c.next_part-2.ensures.part ∙ ap part_of e2))
+          (c.numbers_in-outs.ensures ∙ ap (λ (l : List ℕ). take 8192 (numbers_of l)) (c.next_part-3.ensures.part ∙ ap part_of e3))
+          (c.numbers_in-outs2.ensures ∙ ap (λ (l : List ℕ). take 8192 (numbers_of l)) (c.next_part-4.ensures.part ∙ ap part_of e4))
+          (c.marks_in-marks.ensures ∙ ap (λ (l : List ℕ). take 8192 (marks_of l)) (c.next_part-5.ensures.part ∙ ap part_of e5))
+          (c.numbers_in-answers.ensures ∙ ap (λ (l : List ℕ). take 32768 (numbers_of l)) (c.next_part-6.ensures.part ∙ ap part_of e6)));
       left = c.next_part-6.ensures.left ∙ ap rest_of e6;
     }
