@@ -99,9 +99,9 @@ fn restore(map: &mut ListOrderedMultimap, s: &[u8], n: usize, m: u64) -> Result<
 {
     let (ks, _) = s[8..].as_chunks::<8>();
     let (vs, _) = s[8 + 8 * n..].as_chunks::<8>();
-    for (&k, &v) in ks.iter().zip(vs) {
-        let k = u64::from_le_bytes(k);
-        let v = u64::from_le_bytes(v);
+    for (&member, &round) in ks.iter().zip(vs) {
+        let k = u64::from_le_bytes(member);
+        let v = u64::from_le_bytes(round);
         let Ok(_) = adding::append(map, 0, k, v) else {
             return Err(Refusal::WrongMembers);
         };

@@ -17,7 +17,7 @@ pub returns-in_default : goal.returns-in_default
 returns-in_default c g e =
     let s = c.args.s.now in
     let n = c.args.n in
-    let l = c.loop-k in
+    let l = c.loop-member in
     let allowed = g.limited.allowed in
     let built = l.invariant g e in
     let t = zip_turn c.as_chunks.result.0.now c.as_chunks-2.result.0.now l.yielded _ _ c.next.new.self _ (search rules) (search rules) l.yielded_by _ c.in-Some.is c.next.ensures.steps in
@@ -27,11 +27,11 @@ returns-in_default c g e =
     (nth_read s 8 n (length l.yielded) h (omega (arith, c.requires.long)) c.as_chunks.ensures.front (t.2 []) c.from_le_bytes-k.ensures)
     (nth_read s (8 + 8 * n) n (length l.yielded) h (omega (arith, c.requires.long)) c.as_chunks-2.ensures.front (t.3 []) c.from_le_bytes-v.ensures) (c.in_default.ensures built.linked))
 
-pub loop-k-preserved : goal.loop-k-preserved
-loop-k-preserved c g e =
+pub loop-member-preserved : goal.loop-member-preserved
+loop-member-preserved c g e =
     let s = c.args.s.now in
     let n = c.args.n in
-    let l = c.loop-k in
+    let l = c.loop-member in
     let built = l.invariant g e in
     let t = zip_turn c.as_chunks.result.0.now c.as_chunks-2.result.0.now l.yielded _ _ c.next.new.self _ (search rules) (search rules) l.yielded_by _ c.in-Some.is c.next.ensures.steps in
     let h : length l.yielded < n = omega (arith, t.1, c.requires.long, many_pieces s (8 + 8 * n) c.as_chunks-2.ensures.front_len) in
@@ -45,7 +45,7 @@ pub returns-then-map-m : goal.returns-then-map-m
 returns-then-map-m c g e =
     let s = c.args.s.now in
     let n = c.args.n in
-    let l = c.loop-k in
+    let l = c.loop-member in
     let built = l.invariant g e in
     let all = zip_end c.as_chunks.result.0.now c.as_chunks-2.result.0.now l.yielded _ _ c.next.new.self _ (search rules) (search rules) l.yielded_by c.in-None.is c.next.ensures.steps in
     restored_other _ s g.limited.allowed c.requires l.map built.linked
@@ -55,7 +55,7 @@ pub returns : goal.returns
 returns c g e =
     let s = c.args.s.now in
     let n = c.args.n in
-    let l = c.loop-k in
+    let l = c.loop-member in
     let built = l.invariant g e in
     let all = zip_end c.as_chunks.result.0.now c.as_chunks-2.result.0.now l.yielded _ _ c.next.new.self _ (search rules) (search rules) l.yielded_by c.in-None.is c.next.ensures.steps in
     restored_all _ s g.limited.allowed c.requires l.map built.linked
