@@ -13,7 +13,7 @@ use Rattle.links.proofs.Lists.{length_walk}
 use Rattle.links.proofs.Walks.{Passed, more, place_is}
 use Rattle.multimap.specs.Map.{at}
 use Rattle.multimap.proofs.Copies.{get_d_in}
-use Rattle.copying.proofs.Copying.{Copying, copying_none, one_copied, all_copied}
+use Rattle.copying.proofs.Copying.{Copying, one_copied, all_copied}
 use Rattle.packing.specs.Building.{listed, Distinct}
 use Rattle.packing.proofs.Lists.{nth_apart}
 
@@ -23,9 +23,6 @@ long next root len = length_walk (at next) (at next root) len
 -- of the places xs the first i are met, and f of each stands in `out`, which was out₀; said of a slice as long as the list
 abbrev pub Listed : (f : ℕ → ℕ) (xs out₀ : List ℕ) (i : ℕ) (ws out : List ℕ) → Type 0
 Listed f xs out₀ i ws out = length out₀ ≡ length xs → Copying f xs out₀ i ws out
-
-pub none_listed : {f : ℕ → ℕ} {xs ws out : List ℕ} {i : ℕ} → i ≡ 0 → ws ≡ xs → Listed f xs out i ws out
-none_listed z e fits = rw z (copying_none e (omega arith))
 
 module _ {f : ℕ → ℕ} {xs out₀ : List ℕ} {i : ℕ} {ws out : List ℕ} (t : Listed f xs out₀ i ws out) where
   pub one_listed : {x : ℕ} {ws' : List ℕ} → ws ≡ x ∷ ws' → {j i' v : ℕ} {out' : List ℕ} → j ≡ i → i' ≡ i + 1 → v ≡ f x → out' ≡ set out j v → Listed f xs out₀ i' ws' out'
@@ -39,9 +36,6 @@ module _ {f : ℕ → ℕ} {xs out₀ : List ℕ} {i : ℕ} {ws out : List ℕ} 
 pub record Ranked (ks : List ℕ) (i : ℕ) (ranks : List ℕ) : Type 0 where
   pub long : length ranks ≡ 256
   pub rank : (j : ℕ) → j < i → at ranks (get_or ks j 0) ≡ j
-
-pub none_ranked : {ks ranks : List ℕ} {i : ℕ} → i ≡ 0 → length ranks ≡ 256 → Ranked ks i ranks
-none_ranked z h = record { long = h; rank = λ j less. absurd (omega arith) }
 
 pub one_ranked : {ks ws ws' : List ℕ} {i i' r x : ℕ} {ranks ranks' : List ℕ} → Passed ks i ws → Ranked ks i ranks → Distinct ks 256 → ws ≡ x ∷ ws'
     → r ≡ i → i' ≡ i + 1 → ranks' ≡ set ranks x r → Ranked ks i' ranks'

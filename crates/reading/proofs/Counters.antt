@@ -1,12 +1,10 @@
 -- A loop that writes a list to the front of a slice, as much as it holds. Assumes nothing.
-use Prim.Native.Nat.{ℕ, ◌+◌, ◌<◌, min}
-use mathlib.Core.Path.{◌≡◌, sym, ap, ◌∙◌}
+use Prim.Native.Nat.{ℕ, min}
+use mathlib.Core.Path.{◌≡◌, ap, ◌∙◌}
 use mathlib.Core.List.{List, ◌++◌}
-use native.Mathlib.Omega.{arith}
 use native.Mathlib.Nat.{zero-add}
-use native.Mathlib.Numerals.{add-one}
-use lib.ListN.{length, get_or, set, take, drop}
-use lib.Seq.{paste, paste-suc}
+use lib.ListN.{length, take, drop}
+use lib.Seq.{paste}
 use Rattle.std.proofs.lemmas.List.{take_min, drop_min}
 use Rattle.std.proofs.Math.Nat.{min_comm}
 use Rattle.steps.specs.Step.{onto}
@@ -14,14 +12,6 @@ use Rattle.steps.specs.Step.{onto}
 -- after i turns
 abbrev pub Written : List ℕ → List ℕ → ℕ → List ℕ → Type 0
 Written t out₀ i out = out ≡ paste out₀ 0 t i
-
-pub one_written : (t out₀ : List ℕ) (i : ℕ) {out : List ℕ} → Written t out₀ i out → i < length t → i < length out₀
-    → Written t out₀ (i + 1) (set out i (get_or t i 0))
-one_written t out₀ i w h k =
-    ap (λ (l : List ℕ). set l i (get_or t i 0)) w
-    ∙ ap (λ (j : ℕ). set (paste out₀ 0 t i) j (get_or t i 0)) (sym (zero-add i))
-    ∙ paste-suc out₀ 0 t i 0 (omega arith) h
-    ∙ ap (paste out₀ 0 t) (sym (add-one i))
 
 -- where it ends
 pub all_written : (t out₀ : List ℕ) {i : ℕ} {out : List ℕ} → Written t out₀ i out → i ≡ min (length out₀) (length t) → out ≡ onto t out₀

@@ -1,20 +1,9 @@
 -- `packing::copy_members` meets its contract, by the laws of proofs/Copying.antt. Assumes nothing.
-use mathlib.Core.Path.{sym, ap, ◌∙◌}
+use mathlib.Core.Path.{sym, ◌∙◌}
 use native.Mathlib.Omega.{arith}
-use Rattle.std.proofs.Common.{rules}
-use Rattle.std.specs.Iterator.Adapters.{enumerate_source, enumerate_count}
-use Rattle.links.proofs.Walks.{passed_none, passed_one, passed_all}
-use Rattle.packing.proofs.Copying.{long, none_listed, one_listed, all_listed, none_ranked, one_ranked}
+use Rattle.links.proofs.Walks.{passed_one, passed_all}
+use Rattle.packing.proofs.Copying.{long, one_listed, all_listed, one_ranked}
 use Rattle.packing.proofs.copy_members.Goals as goal
-
-pub loop-rank-init : goal.loop-rank-init
-loop-rank-init c =
-    let zero = ap enumerate_count c.into_iter-rank-iterator.ensures.into_iter_gives ∙ c.enumerate-rank-items.ensures.count in
-    let all = ap enumerate_source c.into_iter-rank-iterator.ensures.into_iter_gives ∙ c.enumerate-rank-items.ensures.source ∙ c.member_places.ensures.places in (
-      rw zero (passed_none all),
-      none_listed zero all,
-      λ n d. none_ranked zero (search rules),
-    )
 
 pub loop-rank-preserved : goal.loop-rank-preserved
 loop-rank-preserved c =

@@ -1,15 +1,8 @@
 -- `packing::copy_rounds` meets its contract, by the laws of proofs/Copying.antt. Assumes nothing.
 use mathlib.Core.Path.{sym, ap, ◌∙◌}
-use Rattle.std.specs.Iterator.Adapters.{enumerate_source, enumerate_count}
 use Rattle.multimap.specs.Map.{at}
-use Rattle.packing.proofs.Copying.{long, none_listed, one_listed, all_listed}
+use Rattle.packing.proofs.Copying.{long, one_listed, all_listed}
 use Rattle.packing.proofs.copy_rounds.Goals as goal
-
-pub loop-i-init : goal.loop-i-init
-loop-i-init c =
-    let zero = ap enumerate_count c.into_iter-i-iterator.ensures.into_iter_gives ∙ c.enumerate-i-items.ensures.count in
-    let all = ap enumerate_source c.into_iter-i-iterator.ensures.into_iter_gives ∙ c.enumerate-i-items.ensures.source ∙ c.round_places.ensures.places in
-    (none_listed zero all, none_listed zero all)
 
 pub loop-i-preserved : goal.loop-i-preserved
 loop-i-preserved c =

@@ -3,13 +3,9 @@ use native.Mathlib.Omega.{arith}
 use mathlib.Core.Path.{sym, ◌∙◌}
 use lib.ListN.{length}
 use Rattle.std.proofs.lemmas.List.{length-take}
-use borrow.Author.Rules.{rules}
-use Rattle.reading.proofs.Counters.{one_written, all_written}
+use Rattle.reading.proofs.Counters.{all_written}
 use Rattle.reading.proofs.Steps.{does_taken}
 use Rattle.reading.proofs.write_counters.Goals as goal
-
-pub loop-i-preserved : goal.loop-i-preserved
-loop-i-preserved c = one_written c.args.map.now.taken c.args.out.now c.loop-i.i c.loop-i.invariant (search rules) (search rules)
 
 pub returns : goal.returns
 returns c =
