@@ -8,7 +8,7 @@ use mathlib.Core.List.{List, [], ◌∷◌}
 use native.Mathlib.Omega.{arith}
 use borrow.Author.Tests.{eq-eqb, ne_eqb}
 use lib.Dec.{eqb}
-use lib.ListN.{length, get_or, set, length-set, get_or-eq_default}
+use lib.ListN.{length, get_or, set, get_or-eq_default}
 use lib.Seq.{get_or-set_same, get_or-set_other}
 use Rattle.std.proofs.lemmas.List.{get_or_default}
 use Rattle.links.specs.Route.{tally, Route}
@@ -16,7 +16,7 @@ use Rattle.links.specs.Links.{record_of}
 use Rattle.links.proofs.Routes.{same_or_not, tally_same, tally_other, length_keep}
 use Rattle.index.proofs.Agree.{true_false}
 use Rattle.well_linked.specs.declared.Chain.{Chain}
-use Rattle.well_linked.specs.Chains.{Used, Begun, Chains, Followed, chain_at}
+use Rattle.well_linked.specs.Chains.{Used, Chains, chain_at}
 
 -- of the chain of k, whose rounds are `own`: so far it is a, and the rounds in `rest` are still to come
 pub record Part (next prev : ℕ → ℕ) (k : ℕ) (own rest : List ℕ) (a : Chain) : Type 0 where
@@ -82,16 +82,3 @@ module _ {key next prev : ℕ → ℕ} {all : List ℕ} {used : List Bool} {cs :
     met_or_left q i =
         ⊎_elim (λ (j : q ≡ x). inl (ap (λ (y : ℕ). get_or used y false) (ap key j ∙ sym k_is) ∙ u))
         (λ (j : q ≢ x). inr (omega (arith, ap (tally q) e, tally_other q x xs j))) (same_or_not q x)
-
-    pub chaining_one : Chaining key next prev all used (set cs k (record { last = x; rounds = (chain_at cs k).rounds + 1 })) xs
-    chaining_one =
-        record {
-          keys = λ q h. ⊎_elim (λ v. inl v) (λ (i : 0 < tally q rest). met_or_left q i) (c.keys q h);
-          part = λ q h. c.part q (rw e (omega arith));
-          parts = λ j h. ⊎_elim
-              (λ (i : j ≡ k).
-              subst (λ (y : ℕ). Part next prev y (record_of key y all) (record_of key y xs) (chain_at (set cs k longer) y)) (sym i)
-              (rw now grown))
-              (λ (i : j ≢ k). rw (there j i, ← other j i) (c.parts j h)) (same_or_not j k);
-          long = length-set cs k longer ∙ c.long;
-        }

@@ -31,17 +31,6 @@ module _ {n p : ℕ → ℕ} {z root here : ℕ} {all left : List ℕ} (g : Goin
     whole : Route n p root all z → Route n p here (x ∷ rest) z
     whole w = subst (λ (l : List ℕ). Route n p here l z) e (g.to w)
 
-    pub going_one : p x ≡ here → Going n p z root all x rest
-    going_one b =
-        record {
-          way = let r : rest ≡ walk n (n (n here)) (length rest) = cc way in r ∙ ap (λ (y : ℕ). walk n (n y) (length rest)) (sym x_is);
-          to = λ w. (whole w).2;
-          of = λ w. g.of (rw e (sym x_is, b, w));
-        }
-
-    pub going_off : (p x ≡ here → ⊥) → Route n p root all z → ⊥
-    going_off b w = b (whole w).1
-
   module _ (e : left ≡ []) where
     pub last : Route n p root all z → Route n p here [] z
     last w = subst (λ (l : List ℕ). Route n p here l z) e (g.to w)
