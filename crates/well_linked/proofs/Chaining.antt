@@ -1,19 +1,18 @@
 -- The members' chains, walked along the list of rounds, a round a turn: the chain of a member place holds exactly if the rest of it does,
 -- from the last cell so far. Assumes nothing.
 use Prim.Native.Nat.{ℕ, ◌+◌, ◌≤◌, ◌<◌}
-use mathlib.Core.Path.{◌≡◌, sym, ap, ◌∙◌, subst}
-use mathlib.Core.Logic.{◌⊎◌, inl, inr, ◌≢◌, ⊎_elim}
+use mathlib.Core.Path.{◌≡◌, sym, subst}
+use mathlib.Core.Logic.{◌⊎◌}
 use mathlib.Core.Bool.{Bool, false}
 use mathlib.Core.List.{List, [], ◌∷◌}
 use native.Mathlib.Omega.{arith}
-use borrow.Author.Tests.{eq-eqb, ne_eqb}
+use borrow.Author.Tests.{eq-eqb}
 use lib.Dec.{eqb}
-use lib.ListN.{length, get_or, set, get_or-eq_default}
-use lib.Seq.{get_or-set_same, get_or-set_other}
+use lib.ListN.{length, get_or, get_or-eq_default}
 use Rattle.std.proofs.lemmas.List.{get_or_default}
 use Rattle.links.specs.Route.{tally, Route}
 use Rattle.links.specs.Links.{record_of}
-use Rattle.links.proofs.Routes.{same_or_not, tally_same, tally_other, length_keep}
+use Rattle.links.proofs.Routes.{tally_same, length_keep}
 use Rattle.index.proofs.Agree.{true_false}
 use Rattle.well_linked.specs.declared.Chain.{Chain}
 use Rattle.well_linked.specs.Chains.{Used, Chains, chain_at}
@@ -58,27 +57,3 @@ module _ {key next prev : ℕ → ℕ} {all : List ℕ} {used : List Bool} {cs :
   -- its number of rounds is at most that of all rounds
   pub room : k < 256 → (chain_at cs k).rounds < length all
   room l = omega (arith, (own_part l).counted, length_keep (λ q. eqb (key q) k) all)
-
-  module _ (l : k < 256) (u : Used used k) (f : Route next prev (chain_at cs k).last [] x) where
-    -- k's chain with x
-    abbrev longer : Chain
-    longer = record { last = x; rounds = (chain_at cs k).rounds + 1 }
-
-    grown : Part next prev k (record_of key k all) (record_of key k xs) longer
-    grown =
-        let p = own_part l in
-        record { to = λ w. (p.to w).2; of = λ w. p.of (f.0, f.1, w); counted = omega (arith, p.counted) }
-
-    now : chain_at (set cs k longer) k ≡ longer
-    now = get_or-set_same cs k longer _ (omega (arith, c.long))
-
-    other : (j : ℕ) → j ≢ k → record_of key j rest ≡ record_of key j xs
-    other j i = rw (e, ne_eqb (key x) j (λ h. i (sym h ∙ sym k_is)))
-
-    there : (j : ℕ) → j ≢ k → chain_at (set cs k longer) j ≡ chain_at cs j
-    there j i = get_or-set_other cs k j longer _ i
-
-    met_or_left : (q : ℕ) → 0 < tally q rest → Used used (key q) ⊎ (0 < tally q xs)
-    met_or_left q i =
-        ⊎_elim (λ (j : q ≡ x). inl (ap (λ (y : ℕ). get_or used y false) (ap key j ∙ sym k_is) ∙ u))
-        (λ (j : q ≢ x). inr (omega (arith, ap (tally q) e, tally_other q x xs j))) (same_or_not q x)

@@ -1,16 +1,14 @@
 -- A walk that marks places, a turn at a time: what is marked and what is still to come are together what was marked and the whole walk.
 -- Assumes nothing.
-use Prim.Native.Nat.{ℕ, zero, suc, ◌+◌, ◌≤◌, ◌<◌}
-use mathlib.Core.Path.{◌≡◌, refl, sym, ap, ◌∙◌}
-use mathlib.Core.Logic.{◌≢◌, ⊎_elim}
+use Prim.Native.Nat.{ℕ, zero, suc, ◌+◌, ◌≤◌}
+use mathlib.Core.Path.{◌≡◌, refl, ap}
 use mathlib.Core.Bool.{Bool, true, false}
 use mathlib.Core.List.{List, ◌∷◌, map}
 use native.Mathlib.Omega.{arith}
-use lib.ListN.{length, get_or, set, length-set}
-use lib.Seq.{get_or-set_same, get_or-set_other}
+use lib.ListN.{length}
 use Rattle.links.specs.Route.{bit, tally, walk}
 use Rattle.links.specs.Stores.{at_in}
-use Rattle.links.proofs.Routes.{same_or_not, tally_same, tally_hit, tally_other}
+use Rattle.links.proofs.Routes.{tally_same}
 use Rattle.well_linked.specs.Marks.{place_at, marks, Marks}
 
 bit_le : (b : Bool) → bit b ≤ 1
@@ -31,24 +29,6 @@ pub record Marking (f : ℕ) (all : List ℕ) (met₀ met : List Bool) (rest : L
 
 module _ {f : ℕ} {all : List ℕ} {met₀ met : List Bool} {rest : List ℕ} (m : Marking f all met₀ met rest) where
   module _ {x : ℕ} {xs : List ℕ} (e : rest ≡ x ∷ xs) where
-    pub marking_one : x < f → f ≤ length met₀ → get_or met x false ≡ false → Marking f all met₀ (set met x true) xs
-    marking_one l h u =
-        record {
-          sums =
-              λ q. ⊎_elim
-              (λ (i : q ≡ x). omega (arith, m.sums q, ap (tally q) e, tally_hit q x xs i, ap bit (marked_here q i), ap bit (free_here q i)))
-              (λ (i : q ≢ x). omega (arith, m.sums q, ap (tally q) e, tally_other q x xs i, ap bit (get_or-set_other met x q true false i)))
-              (same_or_not q x);
-          far = λ q i. sym (ap (tally q) e ∙ tally_other q x xs (λ j. omega (arith, j))) ∙ m.far q i;
-          long = length-set met x true ∙ m.long;
-        }
-      where
-        marked_here : (q : ℕ) → q ≡ x → get_or (set met x true) q false ≡ true
-        marked_here q i = ap (λ (j : ℕ). get_or (set met x true) j false) i ∙ get_or-set_same met x true false (omega (arith, m.long))
-
-        free_here : (q : ℕ) → q ≡ x → get_or met q false ≡ false
-        free_here q i = ap (λ (j : ℕ). get_or met j false) i ∙ u
-
     refuse : {P : Type 0} → ◌≡◌ {A = Bool} false true → P
     refuse r = absurd (omega (arith, ap bit r))
 
@@ -56,12 +36,5 @@ module _ {f : ℕ} {all : List ℕ} {met₀ met : List Bool} {rest : List ℕ} (
     marking_far met' h =
         record {
           decided = λ w. omega (arith, w.below x (omega (arith, m.far x h, ap (tally x) e, tally_same x xs)));
-          marked = λ r. refuse r;
-        }
-
-    pub marking_seen : (met' : List Bool) → get_or met x false ≡ true → Marks f all met₀ met' false
-    marking_seen met' u =
-        record {
-          decided = λ w. omega (arith, w.once x, m.sums x, ap (tally x) e, tally_same x xs, ap bit u);
           marked = λ r. refuse r;
         }

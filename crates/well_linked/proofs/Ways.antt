@@ -1,7 +1,7 @@
 -- A walk along a list that tests the links back, a place a turn: the whole route holds exactly if the rest of it does. Assumes nothing.
 use Prim.Native.Nat.{ℕ}
 use mathlib.Core.Path.{◌≡◌, sym, ap, ◌∙◌, subst}
-use mathlib.Core.List.{List, [], ◌∷◌}
+use mathlib.Core.List.{List, []}
 use lib.ListN.{length}
 use Rattle.links.specs.Route.{walk, Route}
 use Rattle.links.proofs.Lists.{length_walk}
@@ -21,16 +21,6 @@ going_none n p z root many e =
     }
 
 module _ {n p : ℕ → ℕ} {z root here : ℕ} {all left : List ℕ} (g : Going n p z root all here left) where
-  module _ {x : ℕ} {rest : List ℕ} (e : left ≡ x ∷ rest) where
-    way : x ∷ rest ≡ n here ∷ walk n (n (n here)) (length rest)
-    way = sym e ∙ g.way ∙ ap (λ (l : List ℕ). walk n (n here) (length l)) e
-
-    x_is : x ≡ n here
-    x_is = cc way
-
-    whole : Route n p root all z → Route n p here (x ∷ rest) z
-    whole w = subst (λ (l : List ℕ). Route n p here l z) e (g.to w)
-
   module _ (e : left ≡ []) where
     pub last : Route n p root all z → Route n p here [] z
     last w = subst (λ (l : List ℕ). Route n p here l z) e (g.to w)

@@ -2,19 +2,9 @@
 use mathlib.Core.List.{map}
 use mathlib.Core.Path.{ap}
 use native.Mathlib.Omega.{arith}
-use Rattle.well_linked.proofs.Marking.{marking_one, marking_far, marking_seen}
+use Rattle.well_linked.proofs.Marking.{marking_far}
 use Rattle.well_linked.proofs.mark.Goals as goal
 
 pub returns-then-fresh-q : goal.returns-then-fresh-q
 returns-then-fresh-q g c =
     marking_far c.loop-place.invariant (ap (map g.P.Place.number) c.in-Some.ensures.steps) _ (omega (arith, c.index-q.ensures, c.if-fresh-q.true))
-
-pub returns-then-met-q : goal.returns-then-met-q
-returns-then-met-q g c =
-    marking_seen c.loop-place.invariant (ap (map g.P.Place.number) c.in-Some.ensures.steps) _ (rw c.index-q.ensures at c.if-met-q.true)
-
-pub loop-place-preserved : goal.loop-place-preserved
-loop-place-preserved g c =
-    rw c.index-q.ensures
-    (marking_one c.loop-place.invariant (ap (map g.P.Place.number) c.in-Some.ensures.steps) (omega (arith, c.index-q.ensures, c.if-fresh-q.false)) c.requires
-    (rw c.index-q.ensures at c.if-met-q.false))
