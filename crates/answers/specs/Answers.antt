@@ -53,12 +53,15 @@ abbrev pub entry_of : Entry → C.Answer
 entry_of (E.Occupied n) = C.occupied n
 entry_of (E.Vacant k) = C.vacant k
 
--- the answer of a call that may be refused
+-- the answer of a call that may be refused, where g numbers the refusals
+abbrev pub told : {A R : Type 0} → (A → C.Answer) → (R → ℕ) → Result A R → C.Answer
+told f g (Ok x) = f x
+told f g (Err r) = C.refused (g r)
+
+-- that of a call of a map
 abbrev pub answered : {A : Type 0} → (A → C.Answer) → Result A Refusal → C.Answer
-answered f (Ok x) = f x
-answered f (Err r) = C.refused (number_of r)
+answered f o = told f number_of o
 
 -- the same where a refusal is a number
 abbrev pub numbered : Result Answer ℕ → C.Answer
-numbered (Ok a) = answer_of a
-numbered (Err n) = C.refused n
+numbered o = told answer_of (λ n. n) o

@@ -2,10 +2,10 @@
 
 #![tactic(auto)]
 
-ghost use Rattle.std.specs.Prelude.{◌≡◌};
+ghost use Rattle.std.specs.Prelude.{◌≡◌, ℕ};
 ghost use Rattle.steps.specs.Coded.{coded, decoded};
 ghost use Rattle.steps.specs.Call as C;
-ghost use Rattle.answers.specs.Answers.{number_of, answer_of, answered, numbered, done_of, round_of, popped_of, entry_of};
+ghost use Rattle.answers.specs.Answers.{number_of, answer_of, told, numbered, done_of, round_of, popped_of, entry_of};
 
 // Why a call is refused, numbered from 1 on.
 #[derive(Clone, Copy, PartialEq, Eq, Debug)]
@@ -147,13 +147,38 @@ impl Refusal {
     }
 }
 
+// What a refusal is told by: its number.
+pub trait IntoNumber {
+    ghost number: { Self → ℕ };
+
+    fn into_number(self) -> u64
+        ensures { result ≡ number self };
+}
+
+impl IntoNumber for Refusal {
+    ghost number = { number_of };
+
+    fn into_number(self) -> u64 {
+        self.number()
+    }
+}
+
+// Any number, as `read` gives it: also one that no call gives.
+impl IntoNumber for u64 {
+    ghost number = { λ n. n };
+
+    fn into_number(self) -> u64 {
+        self
+    }
+}
+
 // Writes the four numbers of what a call answers.
-pub fn tell<A: IntoAnswer>(numbers: &mut [u64; 4], outcome: Result<A, Refusal>)
-    ensures { numbers.new ≡ coded (answered A.answer outcome) }
+pub fn tell<A: IntoAnswer, R: IntoNumber>(numbers: &mut [u64; 4], outcome: Result<A, R>)
+    ensures { numbers.new ≡ coded (told A.answer R.number outcome) }
 {
     *numbers = match outcome {
         Ok(a) => numbers_of(a.into_answer()),
-        Err(refusal) => [0, refusal.number(), 0, 0],
+        Err(refusal) => [0, refusal.into_number(), 0, 0],
     };
 }
 

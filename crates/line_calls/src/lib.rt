@@ -8,6 +8,7 @@ ghost use Rattle.parsing.specs.Line as Line;
 ghost use Rattle.line_calls.specs.Answer.{marks_line};
 ghost use Rattle.line_calls.specs.Replied.{Replies, Shows};
 
+use answers::Refusal;
 use multimap::ListOrderedMultimap;
 use parsing::MAX_LINE;
 use printing::{print_answer, print_bad, print_members, print_old, print_pairs};
@@ -37,13 +38,13 @@ pub fn removes(map: &mut ListOrderedMultimap, k: u64, out: &mut [u8]) -> usize
 pub fn front(map: &mut ListOrderedMultimap, out: &mut [u8]) -> usize
     ensures { Replies Line.front map.old out.old out.new map.new result }
 {
-    print_answer(out, Ok(popping::pop_front(map)))
+    print_answer(out, Ok::<_, Refusal>(popping::pop_front(map)))
 }
 
 pub fn back(map: &mut ListOrderedMultimap, out: &mut [u8]) -> usize
     ensures { Replies Line.back map.old out.old out.new map.new result }
 {
-    print_answer(out, Ok(popping_back::pop_back(map)))
+    print_answer(out, Ok::<_, Refusal>(popping_back::pop_back(map)))
 }
 
 // Takes the bytes after the letter and its space for the marks; more than a line has are none.

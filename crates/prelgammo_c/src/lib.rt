@@ -16,6 +16,7 @@ ghost use Rattle.image.specs.Answers.{ImagedTold, Restores};
 ghost use Rattle.well_linked.specs.Told.{Tells};
 ghost use Rattle.multimap.specs.declared.ListOrderedMultimap.{ListOrderedMultimap};
 
+use answers::Refusal;
 use multimap::{Limits, ListOrderedMultimap};
 
 // Makes the empty map with these limits, whatever the arrays hold; a refused making leaves it with both limits 0.
@@ -41,7 +42,7 @@ pub extern "C" fn om_clear(map: &mut ListOrderedMultimap, answer: &mut [u64; 4])
     ensures { CallsTold C.clear map.old map.new [] [] answer.new }
 {
     packing::clear(map);
-    answers::tell(answer, Ok(()));
+    answers::tell(answer, Ok::<_, Refusal>(()));
 }
 
 // Moves the i-th pair to the round place i, and the i-th member to the member place i.
@@ -106,7 +107,7 @@ pub extern "C" fn om_insert_all(
 pub extern "C" fn om_remove(map: &mut ListOrderedMultimap, k: u64, answer: &mut [u64; 4])
     ensures { CallsTold (C.remove k) map.old map.new [] [] answer.new }
 {
-    answers::tell(answer, Ok(removing::remove(map, k)));
+    answers::tell(answer, Ok::<_, Refusal>(removing::remove(map, k)));
 }
 
 // Takes the rounds of the member k out, and it with them; writes them to the front of `out` and tells how many.
@@ -127,7 +128,7 @@ pub extern "C" fn om_remove_all(
 pub extern "C" fn om_pop_front(map: &mut ListOrderedMultimap, answer: &mut [u64; 4])
     ensures { CallsTold C.pop_front map.old map.new [] [] answer.new }
 {
-    answers::tell(answer, Ok(popping::pop_front(map)));
+    answers::tell(answer, Ok::<_, Refusal>(popping::pop_front(map)));
 }
 
 // Takes the last round out.
@@ -135,7 +136,7 @@ pub extern "C" fn om_pop_front(map: &mut ListOrderedMultimap, answer: &mut [u64;
 pub extern "C" fn om_pop_back(map: &mut ListOrderedMultimap, answer: &mut [u64; 4])
     ensures { CallsTold C.pop_back map.old map.new [] [] answer.new }
 {
-    answers::tell(answer, Ok(popping_back::pop_back(map)));
+    answers::tell(answer, Ok::<_, Refusal>(popping_back::pop_back(map)));
 }
 
 // Takes the rounds out whose mark is 0, and the members with no other round; tells how many rounds are kept.
@@ -205,7 +206,7 @@ pub extern "C" fn om_vacant_insert(
 pub extern "C" fn om_get(map: &ListOrderedMultimap, k: u64, answer: &mut [u64; 4])
     ensures { ReadsTold (C.get k) map.now [] [] answer.new }
 {
-    answers::tell(answer, Ok(reading::get(map, k)));
+    answers::tell(answer, Ok::<_, Refusal>(reading::get(map, k)));
 }
 
 // Writes the member's rounds, in order, to the front of `out`, and tells how many.
@@ -226,7 +227,7 @@ pub extern "C" fn om_get_all(
 pub extern "C" fn om_entry(map: &ListOrderedMultimap, k: u64, answer: &mut [u64; 4])
     ensures { ReadsTold (C.entry k) map.now [] [] answer.new }
 {
-    answers::tell(answer, Ok(reading::entry(map, k)));
+    answers::tell(answer, Ok::<_, Refusal>(reading::entry(map, k)));
 }
 
 // Tells how many rounds the member has.
@@ -234,7 +235,7 @@ pub extern "C" fn om_entry(map: &ListOrderedMultimap, k: u64, answer: &mut [u64;
 pub extern "C" fn om_entry_len(map: &ListOrderedMultimap, k: u64, answer: &mut [u64; 4])
     ensures { ReadsTold (C.entry_len k) map.now [] [] answer.new }
 {
-    answers::tell(answer, Ok(reading::entry_len(map, k)));
+    answers::tell(answer, Ok::<_, Refusal>(reading::entry_len(map, k)));
 }
 
 // Tells whether the number is a member.
@@ -242,7 +243,7 @@ pub extern "C" fn om_entry_len(map: &ListOrderedMultimap, k: u64, answer: &mut [
 pub extern "C" fn om_contains_key(map: &ListOrderedMultimap, k: u64, answer: &mut [u64; 4])
     ensures { ReadsTold (C.contains_key k) map.now [] [] answer.new }
 {
-    answers::tell(answer, Ok(reading::contains_key(map, k)));
+    answers::tell(answer, Ok::<_, Refusal>(reading::contains_key(map, k)));
 }
 
 // Writes the members, in joining order, to the front of `out`, and tells how many.
@@ -258,7 +259,7 @@ pub extern "C" fn om_keys(map: &ListOrderedMultimap, out: &mut [u64], answer: &m
 pub extern "C" fn om_keys_len(map: &ListOrderedMultimap, answer: &mut [u64; 4])
     ensures { ReadsTold C.keys_len map.now [] [] answer.new }
 {
-    answers::tell(answer, Ok(reading::keys_len(map)));
+    answers::tell(answer, Ok::<_, Refusal>(reading::keys_len(map)));
 }
 
 // Tells how many rounds there are.
@@ -266,7 +267,7 @@ pub extern "C" fn om_keys_len(map: &ListOrderedMultimap, answer: &mut [u64; 4])
 pub extern "C" fn om_values_len(map: &ListOrderedMultimap, answer: &mut [u64; 4])
     ensures { ReadsTold C.values_len map.now [] [] answer.new }
 {
-    answers::tell(answer, Ok(reading::values_len(map)));
+    answers::tell(answer, Ok::<_, Refusal>(reading::values_len(map)));
 }
 
 // Writes the pairs in global order, the members to the front of `out` and the rounds to that of `out2`, and tells how many.
@@ -287,7 +288,7 @@ pub extern "C" fn om_iter(
 pub extern "C" fn om_taken(map: &ListOrderedMultimap, out: &mut [u64; 16], answer: &mut [u64; 4])
     ensures { ReadsTold (C.taken out.old) map.now out.new [] answer.new }
 {
-    answers::tell(answer, Ok(reading::taken(map, out)));
+    answers::tell(answer, Ok::<_, Refusal>(reading::taken(map, out)));
 }
 
 // Makes the call with the number `op`; from 24 on that is `values_len`. `poster`, `k` and `v` are its arguments.

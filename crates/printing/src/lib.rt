@@ -7,7 +7,7 @@ mod putting;
 ghost use Rattle.std.specs.Prelude.{◌+◌, ◌<◌, ◌≡◌, [], ◌++◌, length, take};
 ghost use Rattle.steps.specs.Call.{lend};
 ghost use Rattle.steps.specs.Call as C;
-ghost use Rattle.answers.specs.Answers.{answer_of, answered};
+ghost use Rattle.answers.specs.Answers.{answer_of, told};
 ghost use Rattle.printing.specs.Text as Text;
 ghost use Rattle.printing.specs.Reply as Reply;
 ghost use Rattle.printing.specs.Counts.{text_with};
@@ -16,7 +16,7 @@ ghost use Rattle.printing.specs.Put.{Room, Wrote};
 
 use crate::putting::Writer;
 pub use crate::putting::decimal;
-use answers::{Answer, IntoAnswer, Popped, Refusal};
+use answers::{Answer, IntoAnswer, IntoNumber, Popped};
 
 // The longest printed line, with its line end: `list` and 1,024 pairs of two numbers of 20 digits.
 pub const MAX_PRINTED: usize = 43013;
@@ -32,42 +32,45 @@ enum Counted<'a> {
 
 // Prints an answer to the front of `out`, and answers how many bytes it has; without room for the longest line nothing is printed. A count is
 // of the rounds kept.
-pub fn print_answer<A: IntoAnswer + Drop>(out: &mut [u8], outcome: Result<A, Refusal>) -> usize
-    ensures { Prints out.old (Reply.text_of (Reply.kept (lend [] [])) (answered A.answer outcome)) out.new result }
+pub fn print_answer<A: IntoAnswer + Drop, R: IntoNumber + Drop>(
+    out: &mut [u8],
+    outcome: Result<A, R>,
+) -> usize
+    ensures { Prints out.old (Reply.text_of (Reply.kept (lend [] [])) (told A.answer R.number outcome)) out.new result }
 {
     print(out, outcome, Counted::Kept)
 }
 
 // Prints an answer that counts the rounds written out, with these.
-pub fn print_old<A: IntoAnswer + Drop>(
+pub fn print_old<A: IntoAnswer + Drop, R: IntoNumber + Drop>(
     out: &mut [u8],
-    outcome: Result<A, Refusal>,
+    outcome: Result<A, R>,
     rounds: &[u64; 1024],
 ) -> usize
-    ensures { Prints out.old (Reply.text_of (Reply.old (lend rounds.now [])) (answered A.answer outcome)) out.new result }
+    ensures { Prints out.old (Reply.text_of (Reply.old (lend rounds.now [])) (told A.answer R.number outcome)) out.new result }
 {
     print(out, outcome, Counted::Old(rounds))
 }
 
 // Prints an answer that counts the members written out, with these.
-pub fn print_members<A: IntoAnswer + Drop>(
+pub fn print_members<A: IntoAnswer + Drop, R: IntoNumber + Drop>(
     out: &mut [u8],
-    outcome: Result<A, Refusal>,
+    outcome: Result<A, R>,
     members: &[u64; 1024],
 ) -> usize
-    ensures { Prints out.old (Reply.text_of (Reply.keyed (lend members.now [])) (answered A.answer outcome)) out.new result }
+    ensures { Prints out.old (Reply.text_of (Reply.keyed (lend members.now [])) (told A.answer R.number outcome)) out.new result }
 {
     print(out, outcome, Counted::Members(members))
 }
 
 // Prints an answer that counts the pairs written out, with these.
-pub fn print_pairs<A: IntoAnswer + Drop>(
+pub fn print_pairs<A: IntoAnswer + Drop, R: IntoNumber + Drop>(
     out: &mut [u8],
-    outcome: Result<A, Refusal>,
+    outcome: Result<A, R>,
     members: &[u64; 1024],
     rounds: &[u64; 1024],
 ) -> usize
-    ensures { Prints out.old (Reply.text_of (Reply.listed (lend members.now rounds.now)) (answered A.answer outcome)) out.new result }
+    ensures { Prints out.old (Reply.text_of (Reply.listed (lend members.now rounds.now)) (told A.answer R.number outcome)) out.new result }
 {
     print(out, outcome, Counted::Pairs(members, rounds))
 }
@@ -93,12 +96,12 @@ fn first(n: u64, numbers: &[u64]) -> &[u64]
 
 // Prints an answer, a count with what it counts.
 #[tactic(auto, using(crate::proofs::Sayings::said, crate::proofs::Sayings::prints))]
-fn print<A: IntoAnswer + Drop>(
+fn print<A: IntoAnswer + Drop, R: IntoNumber + Drop>(
     out: &mut [u8],
-    outcome: Result<A, Refusal>,
+    outcome: Result<A, R>,
     counted: Counted,
 ) -> usize
-    ensures { Prints out.old (Reply.text_of (text_with counted.entry) (answered A.answer outcome)) out.new result }
+    ensures { Prints out.old (Reply.text_of (text_with counted.entry) (told A.answer R.number outcome)) out.new result }
 {
     if out.len() < MAX_PRINTED {
         return 0;
@@ -130,14 +133,14 @@ impl Writer<'_> {
 
     // Writes an answer, or the number of a refusal.
     #[tactic(auto, using(crate::proofs::Decimals::decimal_long))]
-    fn put_outcome<A: IntoAnswer>(&mut self, outcome: Result<A, Refusal>, counted: Counted)
+    fn put_outcome<A: IntoAnswer, R: IntoNumber>(&mut self, outcome: Result<A, R>, counted: Counted)
         requires { Room max_printed self.old }
-        ensures wrote { Wrote self.old (Reply.text_of (text_with counted.entry) (answered A.answer outcome)) self.new }
+        ensures wrote { Wrote self.old (Reply.text_of (text_with counted.entry) (told A.answer R.number outcome)) self.new }
         ensures short { self.new.at < self.old.at + max_printed }
     {
         match outcome {
             Ok(a) => self.put_answer(a.into_answer(), counted),
-            Err(refusal) => self.put_count(b"refused", refusal.number()),
+            Err(refusal) => self.put_count(b"refused", refusal.into_number()),
         }
     }
 
