@@ -43,8 +43,7 @@ fn answer_input(rt: &impl Print, input: &mut impl Read) -> Result<()> {
         }
         answer_all(rt, &mut map, &chunk[..n], &mut line, &mut out)?;
     }
-    let used = lines::answer_rest(&mut map, &line, &mut out);
-    write_output(rt, &out[..used])
+    answer_rest(rt, &mut map, &line, &mut out)
 }
 
 // Answers each line that ends in the chunk, and writes the answers before the next read may wait.
@@ -55,8 +54,8 @@ fn answer_all(
     line: &mut Unfinished,
     out: &mut [u8],
 ) -> Result<()>
-    requires { Roomy out.old }
-    ensures { WellLinked map.old → WellLinked map.new }
+    requires { WellLinked map.old × Roomy out.old }
+    ensures { WellLinked map.new }
 {
     let mut rest = chunk;
     while !rest.is_empty() {
@@ -65,6 +64,19 @@ fn answer_all(
         rest = &rest[next.eaten..];
     }
     Ok(())
+}
+
+// Answers what stands after the last line end, if there is any, and writes the answer.
+fn answer_rest(
+    rt: &impl Print,
+    map: &mut ListOrderedMultimap,
+    line: &Unfinished,
+    out: &mut [u8],
+) -> Result<()>
+    requires { WellLinked map.old }
+{
+    let used = lines::answer_rest(map, line, out);
+    write_output(rt, &out[..used])
 }
 
 // Reads some bytes, and gives how many. The input has ended where there are none.
