@@ -71,8 +71,8 @@ pub fn vacant_insert(
 fn check_occupied(map: &ListOrderedMultimap, k: u64) -> Result<(), Refusal>
     ensures { WellLinked map.now → Occupying (present k (state_of map.now)) result }
 {
-    match reading::entry(map, k) {
-        Entry::Occupied(_) => Ok(()),
-        Entry::Vacant(_) => Err(Refusal::Absent),
-    }
+    let Entry::Occupied(_) = reading::entry(map, k) else {
+        return Err(Refusal::Absent);
+    };
+    Ok(())
 }
