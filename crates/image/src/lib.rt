@@ -3,7 +3,8 @@
 
 #![tactic(auto)]
 
-ghost use Rattle.std.specs.Prelude.{◌≡◌, ◌+◌, ◌*◌, ◌≤◌, ℕ, length};
+ghost use Rattle.std.specs.Prelude.{◌≡◌, ◌+◌, ◌*◌, ◌/◌, ◌≤◌, ℕ, length};
+ghost use Rattle.std.specs.Simd.{first_chunks};
 ghost use Rattle.std.proofs.lemmas.List.Edits.{sets};
 ghost use Rattle.answers.specs.Answers.{answered, done_of};
 ghost use Rattle.steps.specs.Call as C;
@@ -41,7 +42,8 @@ pub fn read_image(
     packing::new(map, limits)?;
     let (n, m) = read_sizes(bytes, limits)?;
     if let Err(refusal) = restore(map, bytes, n, m) {
-        *map = multimap::new(limits);
+        // Goes field by field: what lies between two fields of the record is the caller's, and stays.
+        let _ = packing::new(map, limits);
         return Err(refusal);
     }
     Ok(())
@@ -97,8 +99,8 @@ fn restore(map: &mut ListOrderedMultimap, s: &[u8], n: usize, m: u64) -> Result<
     requires { RightSizes (limits_of map.old) s.now n m }
     ensures { WellLinked map.old → state_of map.old ≡ empty (limits_of map.old) → Restored (limits_of map.old) s.now result map.new }
 {
-    let (ks, _) = s[8..].as_chunks::<8>();
-    let (vs, _) = s[8 + 8 * n..].as_chunks::<8>();
+    let ks = number_bytes(&s[8..]);
+    let vs = number_bytes(&s[8 + 8 * n..]);
     for (&member, &round) in ks.iter().zip(vs) {
         let k = u64::from_le_bytes(member);
         let v = u64::from_le_bytes(round);
@@ -110,4 +112,12 @@ fn restore(map: &mut ListOrderedMultimap, s: &[u8], n: usize, m: u64) -> Result<
         return Err(Refusal::WrongMembers);
     }
     Ok(())
+}
+
+// Refers to the numbers that a part of an image begins with, each by its eight bytes.
+fn number_bytes(s: &[u8]) -> &[[u8; 8]]
+    ensures front { result.now ≡ first_chunks 8 (length s.now / 8) s.now }
+    ensures front_len { length result.now ≡ length s.now / 8 }
+{
+    s.as_chunks().0
 }

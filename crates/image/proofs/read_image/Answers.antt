@@ -20,7 +20,7 @@ restore-requires c = right_of c.in_ok-new.ensures (made_allowed c.in_ok-new.ensu
 
 pub returns-in-Err : goal.returns-in-Err
 returns-in-Err c =
-    reads_members c.in_ok-new.ensures (made_allowed c.in_ok-new.ensures refl) c.args.bytes.now c.in-Err.ensures c.new-in-Err.ensures.0 c.new-in-Err.ensures.1
+    reads_members c.in_ok-new.ensures (made_allowed c.in_ok-new.ensures refl) c.args.bytes.now c.in-Err.ensures c.new-in-Err.ensures.linked c.new-in-Err.ensures.state
 
 pub returns : goal.returns
 returns c = reads_done c.in_ok-new.ensures (made_allowed c.in_ok-new.ensures refl) c.args.bytes.now c.in_default.ensures
