@@ -1,14 +1,15 @@
 -- What `thin` makes of the map, and `retain` over it. Assumes nothing.
-use Prim.Native.Nat.{ℕ, suc, ◌+◌, ◌≤◌, ◌<◌}
+use Prim.Native.Nat.{ℕ, zero, suc, ◌+◌, ◌-◌, ◌≤◌, ◌<◌}
 use mathlib.Core.Path.{◌≡◌, refl, sym, ap, ◌∙◌, subst}
 use mathlib.Core.Logic.{◌≢◌, ⊎_elim}
-use mathlib.Core.Bool.{Bool, true, false, cond, ◌&&◌, ◌||◌, false≢true}
+use mathlib.Core.Bool.{Bool, true, false, cond, not, ◌&&◌, ◌||◌, false≢true}
 use mathlib.Core.List.{List, [], ◌∷◌, ◌++◌, map, append_assoc}
 use native.Mathlib.Omega.{arith}
 use borrow.Author.Tests.{eq-eqb, ne_eqb}
-use lib.Dec.{eqb}
-use lib.ListN.{length, get_or, drop, length-drop}
-use Rattle.std.proofs.lemmas.List.{get_or-drop}
+use lib.Dec.{eqb, leb}
+use lib.ListN.{length, get_or, take, drop, length-take, length-drop}
+use Rattle.std.proofs.lemmas.List.{get_or-take, get_or-drop}
+use Rattle.std.proofs.lemmas.Bool.Decides.{leb_tells}
 use Rattle.std.proofs.Math.Bool.{and_assoc, and-true}
 use Rattle.std.specs.List.{fold}
 use Rattle.steps.specs.Lists.{all}
@@ -39,6 +40,30 @@ use Rattle.retaining.specs.Thin.{Thinned}
 pub all_by_fold : {A : Type 0} (f : A → Bool) (b : Bool) (xs : List A) → fold (λ c x. c && f x) b xs ≡ b && all f xs
 all_by_fold f b [] = sym (and-true b)
 all_by_fold f b (x ∷ xs) = all_by_fold f (b && f x) xs ∙ and_assoc b (f x) (all f xs)
+
+-- a mark of a block without a 0
+no_zero_at : (ms : List ℕ) (k : ℕ) → all (λ m. not (eqb 0 m)) ms ≡ true → k < length ms → get_or ms k 0 ≢ 0
+no_zero_at [] k e h = absurd (omega arith)
+no_zero_at (m ∷ ms) zero e h = λ (u : m ≡ 0). false≢true (rw (eq-eqb 0 m (sym u)) at e)
+no_zero_at (m ∷ ms) (suc k) e h = no_zero_at ms k (after (not (eqb 0 m)) (all (λ n. not (eqb 0 n)) ms) e) (omega arith)
+  where
+    after : (b c : Bool) → b && c ≡ true → c ≡ true
+    after true c f = f
+    after false c f = absurd (false≢true f)
+
+-- a block of n marks, up to the place j, has no 0 either
+pub block_kept : (ms : List ℕ) (n j : ℕ) → j ≤ length ms → n ≤ j → all (λ m. not (eqb 0 m)) (take n (drop (j - n) ms)) ≡ true
+    → ((k : ℕ) → j ≤ k → k < length ms → get_or ms k 0 ≢ 0) → (k : ℕ) → j - n ≤ k → k < length ms → get_or ms k 0 ≢ 0
+block_kept ms n j i l e p k h u =
+    ⊎_elim (λ (o : (leb j k ≡ true) × (j ≤ k)). p k o.1 u)
+    (λ (o : (leb j k ≡ false) × (k < j)).
+    let at_k : get_or (take n (drop (j - n) ms)) (k - (j - n)) 0 ≡ get_or ms k 0 =
+    get_or-take n (drop (j - n) ms) (k - (j - n)) 0 (omega arith)
+    ∙ get_or-drop (j - n) ms (k - (j - n)) 0
+    ∙ ap (λ (q : ℕ). get_or ms q 0) (omega arith) in
+    subst (λ (v : ℕ). v ≢ 0) at_k
+    (no_zero_at (take n (drop (j - n) ms)) (k - (j - n)) e (omega (arith, length-take n (drop (j - n) ms), length-drop (j - n) ms))))
+    (leb_tells j k)
 
 -- each mark is 0 or 1
 abbrev pub proper : List ℕ → Bool

@@ -2,7 +2,7 @@
 
 #![tactic(auto)]
 
-ghost use Rattle.std.specs.Prelude.{◌≡◌, ◌≢◌, ◌≤◌, ◌<◌, ◌||◌, ℕ, eqb, length, slice_index};
+ghost use Rattle.std.specs.Prelude.{◌≡◌, ◌≢◌, ◌≤◌, ◌<◌, ◌||◌, ℕ, eqb, length, not, slice_index};
 ghost use Rattle.answers.specs.Answers.{answered};
 ghost use Rattle.steps.specs.Lists.{all};
 ghost use Rattle.steps.specs.Call as C;
@@ -14,6 +14,9 @@ ghost use Rattle.retaining.specs.Thin.{Thinned};
 use answers::Refusal;
 use links::Place;
 use multimap::{ListOrderedMultimap, ROUNDS, ValuePlace};
+
+// How many marks are tested at once for a 0.
+const BLOCK: usize = 64;
 
 // Takes the rounds out whose mark is 0, and the members with no other round; answers how many rounds are kept. Takes bytes as marks, which C and
 // lists of calls lend, and refuses one that is neither 0 nor 1.
@@ -61,8 +64,27 @@ fn past_last_zero(marks: &[u8]) -> usize
     ensures inside { result ≤ length marks.now }
     ensures past { (k : ℕ) → result ≤ k → k < length marks.now → slice_index marks.now k ≢ 0 }
 {
-    marks
+    marks[..before_kept_blocks(marks)]
         .iter()
         .rposition(|&mark| mark == 0)
         .map_or(0, |last| last + 1)
+}
+
+// Gives the place at which the blocks at the back begin that have no mark 0.
+fn before_kept_blocks(marks: &[u8]) -> usize
+    ensures inside { result ≤ length marks.now }
+    ensures past { (k : ℕ) → result ≤ k → k < length marks.now → slice_index marks.now k ≢ 0 }
+{
+    let mut end = marks.len();
+    while BLOCK <= end && has_no_zero(&marks[end - BLOCK..end]) {
+        end -= BLOCK;
+    }
+    end
+}
+
+// Says whether no mark is 0. Tests them all, as `are_marks` does.
+fn has_no_zero(marks: &[u8]) -> bool
+    ensures { result ≡ all (λ m. not (eqb 0 m)) marks.now }
+{
+    marks.iter().fold(true, |kept, &mark| kept & (mark != 0))
 }
