@@ -5,17 +5,13 @@
 ghost use Rattle.multimap.specs.WellLinked.{WellLinked};
 
 use index::KeyPlace;
-use links::Place;
+use links::{Counts, Place};
 use multimap::{Limits, ListOrderedMultimap, ValuePlace};
 use std::io;
 
 fn main(rt: HostRuntime) -> io::Result<()> {
     damaged(&rt, "as it is", |_| {})?;
-    damaged(
-        &rt,
-        "the empty map",
-        |map| *map = multimap::new(Limits::NONE),
-    )?;
+    damaged(&rt, "the empty map", make_empty)?;
     rounds(&rt)?;
     round_counts(&rt)?;
     members(&rt)?;
@@ -30,19 +26,46 @@ fn main(rt: HostRuntime) -> io::Result<()> {
 }
 
 // Makes the sample: the rounds 7:10, 9:20 and 7:11 in the places 0 to 2, their members in 0 and 1. Round place 3 and member place 2 are freed.
-fn sample() -> ListOrderedMultimap
-    ensures { WellLinked result }
+fn sample(map: &mut ListOrderedMultimap)
+    ensures { WellLinked map.new }
 {
-    let mut map = multimap::new(Limits {
+    let limits = Limits {
         members: 3,
         rounds: 5,
-    });
-    let _ = adding::append(&mut map, 0, 7, 10);
-    let _ = adding::append(&mut map, 0, 9, 20);
-    let _ = adding::append(&mut map, 0, 7, 11);
-    let _ = adding::append(&mut map, 0, 5, 30);
-    removing::remove(&mut map, 5);
-    map
+    };
+    let _ = packing::new(map, limits);
+    let _ = adding::append(map, 0, 7, 10);
+    let _ = adding::append(map, 0, 9, 20);
+    let _ = adding::append(map, 0, 7, 11);
+    let _ = adding::append(map, 0, 5, 30);
+    removing::remove(map, 5);
+}
+
+// Gives a record to make a map in. By `multimap::new`, which stands by itself, it would be made beside the map and copied.
+fn zeros() -> ListOrderedMultimap {
+    let first_key = KeyPlace::new(0);
+    let first_value = ValuePlace::new(0);
+    ListOrderedMultimap {
+        keys: [0; 256],
+        lengths: [0; 256],
+        next_key: [first_key; 257],
+        previous_key: [first_key; 257],
+        values: [0; 1024],
+        key_index: [first_key; 1024],
+        next_value: [first_value; 1025],
+        previous_value: [first_value; 1025],
+        next_index: [first_value; 1280],
+        previous_index: [first_value; 1280],
+        index: [0; 512],
+        members: Counts::unused(0),
+        rounds: Counts::unused(0),
+        taken: [0; 16],
+    }
+}
+
+// Makes the map without a round, whose limits are 0.
+fn make_empty(map: &mut ListOrderedMultimap) {
+    let _ = packing::new(map, Limits::NONE);
 }
 
 // Gives the round 20 to the first member, with every link and length of its record. The second member has no round.
@@ -58,7 +81,8 @@ fn change_owner(map: &mut ListOrderedMultimap) {
     map.lengths[1] = 0;
 }
 
-// Prints what the check says of the sample once it is damaged.
+// Prints what the check says of the sample once it is damaged. Stands by itself, so that no more than one map is on the stack.
+#[inline(never)]
 fn damaged<F: FnOnce(&mut ListOrderedMultimap)>(
     rt: &impl Print,
     what: &str,
@@ -66,9 +90,10 @@ fn damaged<F: FnOnce(&mut ListOrderedMultimap)>(
 ) -> io::Result<()>
     requires { F.IsAlwaysCallable damage }
 {
-    let mut map = sample();
-    damage(&mut map);
-    let answer = if well_linked::well_linked(&map) {
+    let map = &mut zeros();
+    sample(map);
+    damage(map);
+    let answer = if well_linked::well_linked(map) {
         "yes"
     } else {
         "no"
