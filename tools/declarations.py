@@ -186,6 +186,7 @@ class Sources:
         self.code = re.sub(r'//[^\n]*', '', text)
         # a struct of one number has the number's memory
         named = re.findall(FOR_C + r'pub struct (\w+)\((?:pub )?(\w+)\);', self.code)
+        named += re.findall(r'pub type (\w+) = (\[\w+; \d+\]);', self.code)
         self.types = dict(named)
         if len(self.types) != len(set(named)):
             sys.exit('two crates have types of one name')

@@ -23,7 +23,8 @@ struct om_map {
     uint16_t previous_index[1280];
     /* The index: member places, or EMPTY. */
     uint16_t index[512];
-    /* The counts of both lists, the map's limits among them. */
+    /* Of each list: how many places are in use, how many have ever been, the first freed one, from which the others
+     * follow by next, and the map's limit. */
     uint16_t members[4];
     uint16_t rounds[4];
     /* Rounds ever taken in, of each poster. */

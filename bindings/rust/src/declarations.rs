@@ -28,7 +28,8 @@ pub struct Record {
     pub previous_index: [u16; 1280],
     // The index: member places, or EMPTY.
     pub index: [u16; 512],
-    // The counts of both lists, the map's limits among them.
+    // Of each list: how many places are in use, how many have ever been, the first freed one, from which the others
+    // follow by next, and the map's limit.
     pub keys_len: u16,
     pub keys_fresh: u16,
     pub keys_free: u16,

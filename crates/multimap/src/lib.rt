@@ -14,12 +14,32 @@ ghost use Rattle.multimap.specs.Map.{members_of, rounds_of, state_of};
 ghost use Rattle.multimap.specs.WellLinked.{WellLinked};
 
 use index::{Found, KeyPlace};
-use links::{Counts, Place, Walk};
+pub use links::Counts;
+use links::{Place, Walk};
 use std::marker::Model;
 
 pub const MEMBERS: u16 = 256;
 
 pub const ROUNDS: u16 = 1024;
+
+// The record's arrays, in its order.
+pub type Keys = [u64; 256];
+
+pub type Lengths = [u16; 256];
+
+pub type KeyLinks = [KeyPlace; 257];
+
+pub type Values = [u64; 1024];
+
+pub type KeyIndex = [KeyPlace; 1024];
+
+pub type ValueLinks = [ValuePlace; 1025];
+
+pub type IndexLinks = [ValuePlace; 1280];
+
+pub type Index = [u16; 512];
+
+pub type Taken = [u32; 16];
 
 // A round's place in the map's arrays of rounds. A contract sees its number. It has the impls of `KeyPlace`, for the reason given there.
 #[repr(C)]
@@ -87,28 +107,29 @@ impl Limits {
 #[derive(Clone, Copy)]
 pub struct ListOrderedMultimap {
     // Of a member place: the member number, and how many rounds it has.
-    pub keys: [u64; 256],
-    pub lengths: [u16; 256],
+    pub keys: Keys,
+    pub lengths: Lengths,
     // The list of members: the place after a place and the one before it. After 256 comes the first, and before 256 the last.
-    pub next_key: [KeyPlace; 257],
-    pub previous_key: [KeyPlace; 257],
+    pub next_key: KeyLinks,
+    pub previous_key: KeyLinks,
     // Of a round place: the round, and its member's place.
-    pub values: [u64; 1024],
-    pub key_index: [KeyPlace; 1024],
+    pub values: Values,
+    pub key_index: KeyIndex,
     // The list of rounds, likewise. After 1024 comes the first, and before 1024 the last.
-    pub next_value: [ValuePlace; 1025],
-    pub previous_value: [ValuePlace; 1025],
+    pub next_value: ValueLinks,
+    pub previous_value: ValueLinks,
     // The next and the previous round of the same member. At 1024 + k the head and the tail of the member place k, where the
     // last round's next and the first one's previous lead back to.
-    pub next_index: [ValuePlace; 1280],
-    pub previous_index: [ValuePlace; 1280],
+    pub next_index: IndexLinks,
+    pub previous_index: IndexLinks,
     // The index: member places, or EMPTY.
-    pub index: [u16; 512],
-    // The counts of both lists, the map's limits among them.
+    pub index: Index,
+    // Of each list: how many places are in use, how many have ever been, the first freed one, from which the others
+    // follow by next, and the map's limit.
     pub members: Counts,
     pub rounds: Counts,
     // Rounds ever taken in, of each poster.
-    pub taken: [u32; 16],
+    pub taken: Taken,
 }
 
 impl ListOrderedMultimap {
