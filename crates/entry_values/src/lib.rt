@@ -2,8 +2,9 @@
 
 #![tactic(auto)]
 
-ghost use Rattle.std.specs.Prelude.{◌≡◌, true, false, length, ◌+◌, ◌<◌, ◌^◌};
-ghost use Rattle.std.specs.Iterator.{item_count};
+ghost use Rattle.std.specs.Prelude.{◌≡◌, true, false, length, ◌+◌, ◌<◌, ◌^◌, IfSome};
+ghost use Rattle.std.specs.Iterator.{item_count, at_most, UpTo};
+ghost use Rattle.std.specs.Iterator.SizeHint.{IsWithinCount, IsExactHint};
 ghost use Rattle.std.proofs.lemmas.List.Edits.{sets};
 ghost use Rattle.entry_values.specs.Reader.{Filled, Fresh, Stepped, filled_part, or_none, remaining};
 ghost use Rattle.entry_values.specs.Mix.{Mixed, mark_of, marks, round_of};
@@ -71,7 +72,11 @@ impl Iterator for EntryValues<'_> {
         Some(first)
     }
 
-    fn size_hint(&self) -> (usize, Option<usize>) {
+    fn size_hint(&self) -> (usize, Option<usize>)
+        ensures lower { IsWithinCount result.0 (at_most (length (remaining self.now))) }
+        ensures upper { IfSome result.1 (UpTo (at_most (length (remaining self.now)))) }
+        ensures exact { IsExactHint result (length (remaining self.now)) }
+    {
         let len = self.len();
         (len, Some(len))
     }

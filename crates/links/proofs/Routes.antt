@@ -75,6 +75,11 @@ module _ (n p : ℕ → ℕ) where
   route_start a [] z h = h.0
   route_start a (x ∷ xs) z h = h.0
 
+  pub route_step : (a : ℕ) (xs : List ℕ) (z i : ℕ) → Route n p a xs z → i < length xs → n (get_or xs i z) ≡ get_or xs (suc i) z
+  route_step a [] z i h k = absurd (omega arith)
+  route_step a (x ∷ xs) z zero h k = route_start x xs z h.2
+  route_step a (x ∷ xs) z (suc i) h k = route_step x xs z i h.2 (omega arith)
+
   -- by n until z is met
   pub route_follow : (a : ℕ) (xs : List ℕ) (z k : ℕ) → Route n p a xs z → tally z xs ≡ 0 → length xs ≤ k → follow n z (n a) k ≡ xs
   route_follow a [] z zero h c i = refl
