@@ -11,8 +11,8 @@
  * Every call that adds a round takes a poster first, from 0 to 15, and counts the round for it. om_map_taken gives the
  * sixteen counters, which are a part of the map.
  *
- * Stack: om_map_read_image takes 24 KB of it, om_map_pack_to and om_map_call 13 KB, each other function of a map less than
- * 3 KB; replay takes 37 KB, and om_turn, which has the map by value, 108 KB, of which 48 KB are the caller's two copies.
+ * Stack: om_map_pack_to and om_map_call take 13 KB of it, each other function of a map less than 3 KB; replay takes 37 KB,
+ * and om_turn, which has the map by value, 108 KB at most, of which 48 KB are the caller's two copies.
  * stack.c measures it and holds it to OM_STACK and OM_STACK_BY_VALUE.
  *
  * A slice is a pointer and a length. The pointer is never NULL, also where the length is 0, and the slices of one call
