@@ -71,6 +71,7 @@ fn past_last_zero(marks: &[u8]) -> usize
 }
 
 // Gives the place at which the blocks at the back begin that have no mark 0.
+// Goes by a place: of an iterator over blocks from the back it would be worked out from how many of them were given.
 fn before_kept_blocks(marks: &[u8]) -> usize
     ensures inside { result ≤ length marks.now }
     ensures past { (k : ℕ) → result ≤ k → k < length marks.now → slice_index marks.now k ≢ 0 }
