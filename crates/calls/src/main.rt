@@ -73,7 +73,8 @@ fn answer_rest(
     line: &Unfinished,
     out: &mut [u8],
 ) -> Result<()>
-    requires { WellLinked map.old }
+    requires { WellLinked map.old × Roomy out.old }
+    ensures { WellLinked map.new }
 {
     let used = lines::answer_rest(map, line, out);
     write_output(rt, &out[..used])
