@@ -1,6 +1,6 @@
 -- Bytes of numbers, and bytes stored in a slice. Assumes nothing.
 use Prim.Native.Nat.{ℕ, zero, suc, ◌+◌, ◌*◌, ◌-◌, ◌≤◌, ◌/◌, ◌%◌, ◌^◌}
-use mathlib.Core.Path.{◌≡◌, refl, sym, ap, ◌∙◌}
+use mathlib.Core.Path.{◌≡◌, refl, sym, ap, subst, ◌∙◌}
 use mathlib.Core.List.{List, [], ◌∷◌, ◌++◌, append_assoc}
 use native.Mathlib.Omega.{arith}
 use lib.ListN.{length, take, drop, length-append}
@@ -42,6 +42,10 @@ stored out xs p room =
     rw e
     (ap (λ (l : List ℕ). take p out ++ (xs ++ l)) (drop-drop (length xs) p out)
     ∙ sym (append_assoc (take p out) xs (drop (p + length xs) out)) ∙ sym (sets-eq xs out p room))
+
+-- so, of an array of n bytes
+pub stored_array : (out xs : List ℕ) (p n : ℕ) → length xs ≡ n → p + n ≤ length out → put_mid p (p + n - p) out xs ≡ sets out p xs
+stored_array out xs p n e room = subst (λ (k : ℕ). put_mid p (p + k - p) out xs ≡ sets out p xs) e (stored out xs p (omega (arith, e, room)))
 
 -- a number that is stored, by its bytes as the library gives them
 pub stores : (out : List ℕ) (p w : ℕ) {b out' : List ℕ} {y x : ℕ} → out' ≡ sets out p b → b ≡ bytes_low_first 0 w y → y ≡ x → out' ≡ sets out p (bytes w x)

@@ -50,11 +50,22 @@ pub fn read_image(
 }
 
 // Stores bytes from `at` on.
-fn put(out: &mut [u8], at: usize, bytes: &[u8])
-    requires { at + length bytes.now ≤ length out.old }
+fn put<const N: usize>(out: &mut [u8], at: usize, bytes: &[u8; N])
+    requires { at + N ≤ length out.old }
     ensures { out.new ≡ sets out.old at bytes.now }
 {
-    out[at..at + bytes.len()].copy_from_slice(bytes);
+    store(&mut out[at..at + N], bytes);
+}
+
+// Stores bytes as an array: of a slice the compiler tests whether it lies over the bytes.
+fn store<const N: usize>(place: &mut [u8], bytes: &[u8; N])
+    requires { length place.old ≡ N }
+    ensures { place.new ≡ bytes.now }
+{
+    let Some(place) = place.as_mut_array() else {
+        unreachable!()
+    };
+    *place = *bytes;
 }
 
 // Stores the sizes at the front of `out`, then pair by pair, along the links, a member in the first array and a round in the second. Where they
